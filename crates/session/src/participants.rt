@@ -1,0 +1,28 @@
+//! Who takes part.
+
+/// What a participant is.
+#[derive(Clone, Copy, PartialEq, Eq, Debug)]
+pub enum Kind {
+    /// Quotes, tenders, and shares the excess of a fix.
+    FixingMember = 1,
+    /// Quotes and tenders.
+    ReferencePriceMember = 2,
+    /// Tenders.
+    OtherMember = 3,
+    /// Tenders through a member, its carrier.
+    Customer = 4,
+}
+
+/// A row of the participant table. A member's carrier is its own row.
+#[derive(Clone, Copy, PartialEq, Eq, Debug)]
+pub struct Participant {
+    pub kind: Kind,
+    pub carrier: u32,
+}
+
+/// A participant as it came, before anything is checked.
+#[derive(Clone, Copy, PartialEq, Eq, Debug)]
+pub struct Listed {
+    pub kind: u32,
+    pub carrier: u32,
+}

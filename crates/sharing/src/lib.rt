@@ -1,0 +1,5 @@
+//! How the Fixing Members share the excess of a fix.
+
+mod bounds;
+pub mod policy;
+pub mod table_order;
