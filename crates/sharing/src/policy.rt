@@ -9,12 +9,17 @@ use measures::Lots;
 /// A sharing policy. What it means is, for a number of Fixing Members and an excess, the lots of each member's place.
 pub trait SharingPolicy {
     ghost share: { Self → ℕ → ℕ → ℕ → ℕ };
+
     ghost told: { Self → ℕ → ℕ → Self };
 
     law whole: { (p : Self) (n q : ℕ) → inBounds n q ≡ true → below n (share p n q) ≡ q };
+
     law level: { (p : Self) (n q i j : ℕ) → inBounds n q ≡ true → i < n → j < n → share p n q i ≤ share p n q j + 1 };
+
     law outside: { (p : Self) (n q i : ℕ) → inBounds n q ≡ false → share p n q i ≡ 0 };
+
     law beyond: { (p : Self) (n q i : ℕ) → n ≤ i → share p n q i ≡ 0 };
+
     law unmoved: { (p : Self) (n q : ℕ) → inBounds n q ≡ false → told p n q ≡ p };
 
     /// The lots of one place.

@@ -1,8 +1,8 @@
 //! The policy in which the first places take the extra lots.
 
 ghost use Rattle.sharing.specs.Shares.{tableShare};
-use crate::policy::SharingPolicy;
 use crate::bounds::in_bounds;
+use crate::policy::SharingPolicy;
 use measures::Lots;
 
 /// Table order: it holds nothing, and being told changes nothing.
@@ -11,6 +11,7 @@ pub struct TableOrder;
 
 pub impl SharingPolicy for TableOrder as TableOrderPolicy {
     ghost share = { λ _. tableShare };
+
     ghost told = { λ p n q. p };
 
     fn share_of(&self, members: u32, excess: Lots, place: u32) -> Lots {
