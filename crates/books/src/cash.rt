@@ -18,7 +18,9 @@ pub struct CashBook {
 fn known_balance(stored: Balance) -> Option<Balance>
     ensures { λ r. ⌜ r ≡ known stored ⌝ }
 {
-    if stored.free.0 <= 4_000_000_000_000_000_000 && stored.frozen.0 <= 4_000_000_000_000_000_000 - stored.free.0 {
+    if stored.free.0 <= 4_000_000_000_000_000_000
+        && stored.frozen.0 <= 4_000_000_000_000_000_000 - stored.free.0
+    {
         Some(stored)
     } else {
         None

@@ -12,11 +12,15 @@ pub trait FixingContract: QuotedContract {
     const THRESHOLD: Lots;
 
     ghost threshold: { ℕ };
+
     ghost step: { ℕ → ℕ };
 
     law threshold_high: { threshold ≤ 1000000 };
+
     law step_none: { (n : ℕ) → n ≤ threshold → step n ≡ 0 };
+
     law step_low: { (n : ℕ) → threshold < n → 1 ≤ step n };
+
     law step_high: { (n : ℕ) → step n ≤ 1000 };
 
     /// The largest imbalance at which the price is fixed.

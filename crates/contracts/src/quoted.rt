@@ -19,16 +19,25 @@ pub trait QuotedContract {
     const LARGEST: Lots;
 
     ghost weight: { ℕ };
+
     ghost worth: { ℕ };
+
     ghost margin: { ℕ };
+
     ghost largest: { ℕ };
 
     law weight_low: { 1 ≤ weight };
+
     law weight_high: { weight ≤ 1000 };
+
     law worth_high: { worth ≤ 1500 };
+
     law margin_low: { 1 ≤ margin };
+
     law margin_high: { margin ≤ worth };
+
     law largest_low: { 1 ≤ largest };
+
     law largest_high: { largest ≤ 40000 };
 
     /// What one lot weighs.

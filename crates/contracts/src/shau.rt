@@ -14,13 +14,19 @@ pub struct Shau;
 
 pub impl QuotedContract for Shau as ShauQuoted {
     const LOT_WEIGHT: Kg = Kg(1);
+
     const FEN: Fen = Fen(1_000);
+
     const MARGIN: Fen = Fen(60);
+
     const LARGEST: Lots = Lots(10_000);
 
     ghost weight = { 1 };
+
     ghost worth = { 1000 };
+
     ghost margin = { 60 };
+
     ghost largest = { 10000 };
 
     fn weight_of_lot() -> Kg {
@@ -44,6 +50,7 @@ pub impl FixingContract for Shau as ShauFixing {
     const THRESHOLD: Lots = Lots(400);
 
     ghost threshold = { 400 };
+
     ghost step = { shauStep };
 
     fn threshold_lots() -> Lots {
@@ -51,12 +58,14 @@ pub impl FixingContract for Shau as ShauFixing {
     }
 
     fn step_at(imbalance: Lots) -> Ticks {
-        Ticks(match imbalance.0 {
-            0..=400 => 0,
-            401..=3_499 => 10,
-            3_500..=5_999 => 20,
-            6_000..=9_999 => 30,
-            _ => 40,
-        })
+        Ticks(
+            match imbalance.0 {
+                0..=400 => 0,
+                401..=3_499 => 10,
+                3_500..=5_999 => 20,
+                6_000..=9_999 => 30,
+                _ => 40,
+            },
+        )
     }
 }
