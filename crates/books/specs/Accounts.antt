@@ -17,10 +17,13 @@ Accounts = ℕ → Option Balance
 abbrev pub balanced : ℕ → ℕ → Balance
 balanced free frozen = record { free = record { 0 = free }; frozen = record { 0 = frozen } }
 
--- the two sums of an account are together at most 4 × 10^18 fen
+-- the most that an account holds, free and frozen together
+abbrev pub mostHeld : ℕ
+mostHeld = 4 * 10 ^ 18
+
 abbrev pub Within : Option Balance → Type 0
 Within None = Unit {0}
-Within (Some b) = b .free .0 + b .frozen .0 ≤ 4 * 10 ^ 18
+Within (Some b) = b .free .0 + b .frozen .0 ≤ mostHeld
 
 -- freezing is refused exactly when the account is unknown or has too little free
 abbrev pub freezing : Option Balance → ℕ → Result (Unit {0}) BookFault

@@ -10,3 +10,6 @@ pub struct Balance {
     pub free: Fen,
     pub frozen: Fen,
 }
+
+/// The most that an account holds, free and frozen together.
+pub(crate) const MOST_HELD: Fen = Fen(4_000_000_000_000_000_000);

@@ -2,9 +2,12 @@
 
 ghost use mathlib.Core.Path.{_≡_};
 ghost use Rattle.std.specs.Of.Vec.{vec-items};
-ghost use Rattle.books.specs.Stored.{cashMeans, known};
+ghost use Rattle.books.specs.Stored.{cashAccounts, cashMeans, known};
 use crate::balance::Balance;
+use crate::balance::MOST_HELD;
 use crate::book::MarginBook;
+use crate::checks::freezable;
+use crate::checks::releasable;
 use crate::faults::BookFault;
 use measures::Fen;
 
@@ -18,9 +21,7 @@ pub struct CashBook {
 fn known_balance(stored: Balance) -> Option<Balance>
     ensures { λ r. ⌜ r ≡ known stored ⌝ }
 {
-    if stored.free.0 <= 4_000_000_000_000_000_000
-        && stored.frozen.0 <= 4_000_000_000_000_000_000 - stored.free.0
-    {
+    if stored.free.0 <= MOST_HELD.0 && stored.frozen.0 <= MOST_HELD.0 - stored.free.0 {
         Some(stored)
     } else {
         None
@@ -30,14 +31,14 @@ fn known_balance(stored: Balance) -> Option<Balance>
 impl CashBook {
     /// A book that stores these accounts.
     pub fn new(accounts: Vec<Balance>) -> CashBook
-        ensures { λ r. ⌜ r .accounts ≡ accounts ⌝ }
+        ensures { λ r. ⌜ cashAccounts r ≡ cashMeans (vec-items accounts) ⌝ }
     {
         CashBook { accounts }
     }
 }
 
 pub impl MarginBook for CashBook as CashMargin {
-    ghost means = { λ b. cashMeans (vec-items (b .accounts)) };
+    ghost means = { cashAccounts };
 
     fn balance(&self, account: u32) -> Option<Balance> {
         let place = account as usize;
@@ -49,12 +50,7 @@ pub impl MarginBook for CashBook as CashMargin {
     }
 
     fn freeze(&mut self, account: u32, amount: Fen) -> Result<(), BookFault> {
-        let Some(held) = self.balance(account) else {
-            return Err(BookFault::Unknown);
-        };
-        if held.free.0 < amount.0 {
-            return Err(BookFault::Short);
-        }
+        let held = freezable(self.balance(account), amount)?;
         self.accounts[account as usize] = Balance {
             free: Fen(held.free.0 - amount.0),
             frozen: Fen(held.frozen.0 + amount.0),
@@ -63,12 +59,7 @@ pub impl MarginBook for CashBook as CashMargin {
     }
 
     fn release(&mut self, account: u32, amount: Fen) -> Result<(), BookFault> {
-        let Some(held) = self.balance(account) else {
-            return Err(BookFault::Unknown);
-        };
-        if held.frozen.0 < amount.0 {
-            return Err(BookFault::Short);
-        }
+        let held = releasable(self.balance(account), amount)?;
         self.accounts[account as usize] = Balance {
             free: Fen(held.free.0 + amount.0),
             frozen: Fen(held.frozen.0 - amount.0),

@@ -1,9 +1,18 @@
-use borrow.Author.Needs.{needs}
-use mathlib.Core.Path.{sym}
+use mathlib.Core.Path.{refl, sym, _∙_}
 use native.Mathlib.Omega.{arith}
+use Rattle.std.proofs.shelf.Results.{err-from-errBy}
 use Rattle.std.proofs.shelf.Ways.{tells}
-use Rattle.books.proofs.Stored.{cash-freeze}
+use Rattle.books.proofs.Stored.{cash-freeze, freeze-none}
 use Rattle.books.proofs.cash.CashMargin.freeze.Needs as need
 
+pub returns-in-Break-held : need.returns-in-Break-held
+returns-in-Break-held c =
+    let p = err-from-errBy (c .from-residual .result) (c .from-residual .ensures .1) in
+    let no = rw (c .balance .ensures) at (c .in-Break-held .ensures tt) in
+    rw (p .1, p .2) (record { answer = sym no; after = freeze-none _ _ _ _ no; kept = refl })
+
 pub returns : need.returns
-returns c = let h = sym (c .in-Some .ensures tt) in record { answer = grind (arith, tells); after = cash-freeze _ _ (c .args .amount .0) (c .in-Some .held) h (omega arith); kept = tt }
+returns c =
+    let h = c .in-Continue-held .ensures tt in
+    let held = sym (c .balance .ensures) ∙ h .0 in
+    record { answer = grind (arith, tells); after = cash-freeze _ _ (c .args .amount .0) (c .in-Continue-held .held) held (h .1); kept = tt }
