@@ -1,5 +1,6 @@
 //! The contracts that are fixed: their figures, and what every contract shows.
 
+pub mod edges;
 pub mod fixing;
 pub mod quoted;
 pub mod shag;
