@@ -1,3 +1,9 @@
 pub mod Faults
+pub mod Gates
+pub mod Lines
 pub mod Participants
+pub mod Periods
+pub mod Quotes
+pub mod Quoting
 pub mod Stages
+pub mod State

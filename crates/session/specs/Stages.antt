@@ -1,4 +1,6 @@
 use Prim.Native.Nat.{ℕ}
+use mathlib.Core.Bool.{Bool, true, false, _||_}
+use lib.Dec.{eqb}
 use Rattle.session.specs.declared.stages.Stage.{Stage}
 use Rattle.session.specs.declared.stages.Stage.the-variants.{Quoting, Market, Supplementary, Fixed, Announced, Suspended, Halted}
 
@@ -11,3 +13,12 @@ numberOf Fixed = 3
 numberOf Announced = 4
 numberOf Suspended = 5
 numberOf Halted = 6
+
+abbrev pub isQuoting : Stage → Bool
+isQuoting s = eqb (numberOf s) 0
+
+abbrev pub isMarket : Stage → Bool
+isMarket s = eqb (numberOf s) 1
+
+abbrev pub isSupplementary : Stage → Bool
+isSupplementary s = eqb (numberOf s) 2

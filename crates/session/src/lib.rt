@@ -2,6 +2,14 @@
 
 pub mod answers;
 pub mod faults;
+pub mod fills;
+mod gates;
+pub mod lines;
 pub mod lists;
 pub mod participants;
+pub mod periods;
+mod quote;
+pub mod session;
 pub mod stages;
+pub mod table;
+mod tables;
