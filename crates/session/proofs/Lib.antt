@@ -1,2 +1,4 @@
 pub mod Totals
 pub mod Named
+pub mod Averages
+pub mod Priced

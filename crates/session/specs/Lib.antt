@@ -7,3 +7,6 @@ pub mod Quotes
 pub mod Quoting
 pub mod Stages
 pub mod State
+pub mod Tenders
+pub mod Means
+pub mod Beginning
