@@ -58,14 +58,13 @@ pub impl FixingContract for Shag as ShagFixing {
     }
 
     fn step_at(imbalance: Lots) -> Ticks {
-        Ticks(
-            match imbalance.0 {
-                0..=600 => 0,
-                601..=2_999 => 2,
-                3_000..=4_999 => 4,
-                5_000..=7_999 => 8,
-                _ => 16,
-            },
-        )
+        let ticks = match imbalance.0 {
+            0..=600 => 0,
+            601..=2_999 => 2,
+            3_000..=4_999 => 4,
+            5_000..=7_999 => 8,
+            _ => 16,
+        };
+        Ticks(ticks)
     }
 }

@@ -58,14 +58,13 @@ pub impl FixingContract for Shau as ShauFixing {
     }
 
     fn step_at(imbalance: Lots) -> Ticks {
-        Ticks(
-            match imbalance.0 {
-                0..=400 => 0,
-                401..=3_499 => 10,
-                3_500..=5_999 => 20,
-                6_000..=9_999 => 30,
-                _ => 40,
-            },
-        )
+        let ticks = match imbalance.0 {
+            0..=400 => 0,
+            401..=3_499 => 10,
+            3_500..=5_999 => 20,
+            6_000..=9_999 => 30,
+            _ => 40,
+        };
+        Ticks(ticks)
     }
 }

@@ -1,3 +1,4 @@
+use borrow.Author.Needs.{needs}
 use mathlib.Core.Path.{refl, sym, _∙_}
 use native.Mathlib.Omega.{arith}
 use Rattle.std.proofs.shelf.Results.{err-from-errBy}
@@ -13,6 +14,6 @@ returns-in-Break-held c =
 
 pub returns : need.returns
 returns c =
-    let h = c .in-Continue-held .ensures tt in
-    let held = sym (c .balance .ensures) ∙ h .0 in
-    record { answer = grind (arith, tells); after = line-release _ _ (c .args .amount .0) (c .in-Continue-held .held) (c .index-mut .result .now) held (c .index-mut .ensures .value) (h .1); kept = tt }
+    let enough = c .in-Continue-held .ensures tt .1 in
+    let held = sym (c .balance .ensures) ∙ c .in-Continue-held .ensures tt .0 in
+    record { answer = grind (arith, tells); after = search (needs, line-release); kept = tt }
