@@ -131,3 +131,16 @@ lots-reduced s x m = elim (sameSide (x .side) s) as (λ b. cond b (x .lots .0 - 
 
 pub reduced-fits : (n : ℕ) (s : Side) (ls : List Line) (i : ℕ) (x : Line) (m : ℕ) → lawful n ls ≡ true → length ls ≤ 4096 → i < length ls → x ≡ getD ls i x → (standing s ls - lotsOn s x) + lotsOn s (reduced x m) ≤ 163840000
 reduced-fits n s ls i x m h k l e = omega (arith, standing-le n s ls h, lots-le-read s ls i x l e, lots-reduced s x m)
+
+line-row : (n : ℕ) (l : Line) → lawfulLine n l ≡ true → l .row < n
+line-row n l h = grind (arith, tells)
+
+pub row-at : (n : ℕ) (ls : List Line) (i : ℕ) (d : Line) → lawful n ls ≡ true → i < length ls → getD ls i d .row < n
+row-at n ls i d h k = line-row n (getD ls i d) (lawful-at n ls i d h k)
+
+line-wider : (n m : ℕ) (l : Line) → n ≤ m → lawfulLine n l ≡ true → lawfulLine m l ≡ true
+line-wider n m l e h = grind (arith, tells)
+
+pub lawful-wider : (n m : ℕ) (ls : List Line) → n ≤ m → lawful n ls ≡ true → lawful m ls ≡ true
+lawful-wider n m [] e h = refl
+lawful-wider n m (l ∷ ls) e h = let p = and-parts (lawfulLine n l) (lawful n ls) h in and-from (lawfulLine m l) (lawful m ls) (line-wider n m l e (p .0)) (lawful-wider n m ls e (p .1))

@@ -10,3 +10,5 @@ pub mod State
 pub mod Tenders
 pub mod Means
 pub mod Beginning
+pub mod Dues
+pub mod Striking

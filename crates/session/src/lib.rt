@@ -15,6 +15,7 @@ mod quote;
 mod reduce;
 pub mod session;
 pub mod stages;
+mod strike;
 pub mod table;
 mod tables;
 mod tally;

@@ -1,5 +1,8 @@
 //! Who takes part.
 
+/// The most rows of a participant table.
+pub(crate) const MOST_ROWS: usize = 256;
+
 /// What a participant is.
 #[derive(Clone, Copy, PartialEq, Eq, Debug)]
 pub enum Kind {

@@ -10,7 +10,6 @@ use crate::fills::Fill;
 use crate::participants::Participant;
 use crate::periods::Period;
 use crate::table::LineTable;
-use measures::Fen;
 use measures::Ticks;
 use std::marker::PhantomData;
 
@@ -26,8 +25,6 @@ pub struct Session<C, P> {
     /// The quote of each row.
     pub(crate) quotes: Vec<Option<Ticks>>,
     pub(crate) table: LineTable,
-    /// Room for what striking releases to each row.
-    pub(crate) dues: Vec<Fen>,
     /// What the fix gave each row; nothing before it.
     pub(crate) fills: Vec<Fill>,
     pub(crate) period: Period,
@@ -41,7 +38,6 @@ pub struct Session<C, P> {
     ghost quoted: { vec-len quotes ≡ vec-len rows },
     ghost named: { lawfulQuotes (vec-items quotes) ≡ true },
     ghost tied: { table .rows ≡ vec-len rows },
-    ghost owed: { vec-len dues ≡ vec-len rows },
     ghost filled: { vec-len fills ≡ vec-len rows },
     ghost priced: { period .price .0 ≤ 10000000 },
     ghost before: { period .previous .0 ≤ 10000000 },
