@@ -12,3 +12,8 @@ pub mod Means
 pub mod Beginning
 pub mod Dues
 pub mod Striking
+pub mod Moves
+pub mod Closing
+pub mod Measures
+pub mod Orders
+pub mod Opening

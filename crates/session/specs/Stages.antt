@@ -22,3 +22,12 @@ isMarket s = eqb (numberOf s) 1
 
 abbrev pub isSupplementary : Stage → Bool
 isSupplementary s = eqb (numberOf s) 2
+
+abbrev pub isSuspended : Stage → Bool
+isSuspended s = eqb (numberOf s) 5
+
+abbrev pub isHalted : Stage → Bool
+isHalted s = eqb (numberOf s) 6
+
+abbrev pub isFixed : Stage → Bool
+isFixed s = eqb (numberOf s) 3

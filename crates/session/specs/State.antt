@@ -27,7 +27,7 @@ pub record State (P : Type 0) : Type 0 where
   pub policy : P
 
 abbrev pub view : {C P : Type 0} → Session C P → State P
-view s = record { rows = vec-items (s .rows); quotes = vec-items (s .quotes); lines = vec-items (s .table .lines); limit = s .table .limit; fills = vec-items (s .fills); period = s .period; policy = s .policy }
+view s = record { rows = vec-items (s .rows); quotes = vec-items (s .quotes); lines = vec-items (s .table .lines); limit = s .table .limit; fills = s .fills; period = s .period; policy = s .policy }
 
 -- what a call does: its answer, and the session and the accounts afterwards
 pub record Outcome (P T : Type 0) : Type 0 where

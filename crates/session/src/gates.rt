@@ -12,7 +12,7 @@ use measures::Lots;
 use measures::Ticks;
 
 /// The last millisecond of a day.
-const LAST_TIME: u32 = 86_399_999;
+pub(crate) const LAST_TIME: u32 = 86_399_999;
 
 /// The highest price, in ticks; the lowest is 1.
 pub(crate) const HIGHEST_PRICE: u32 = 10_000_000;

@@ -7,6 +7,7 @@ ghost use Rattle.std.specs.Of.Vec.{vec-items, vec-len};
 ghost use Rattle.session.specs.Quotes.{lawfulQuotes};
 ghost use Rattle.session.specs.Participants.{memberCount, seatCount};
 use crate::fills::Fill;
+use crate::participants::MOST_ROWS;
 use crate::participants::Participant;
 use crate::periods::Period;
 use crate::table::LineTable;
@@ -26,7 +27,7 @@ pub struct Session<C, P> {
     pub(crate) quotes: Vec<Option<Ticks>>,
     pub(crate) table: LineTable,
     /// What the fix gave each row; nothing before it.
-    pub(crate) fills: Vec<Fill>,
+    pub(crate) fills: [Fill; MOST_ROWS],
     pub(crate) period: Period,
     pub(crate) policy: P,
     pub(crate) contract: PhantomData<C>,
@@ -38,7 +39,6 @@ pub struct Session<C, P> {
     ghost quoted: { vec-len quotes ≡ vec-len rows },
     ghost named: { lawfulQuotes (vec-items quotes) ≡ true },
     ghost tied: { table .rows ≡ vec-len rows },
-    ghost filled: { vec-len fills ≡ vec-len rows },
     ghost priced: { period .price .0 ≤ 10000000 },
     ghost before: { period .previous .0 ≤ 10000000 },
     ghost rounded: { period .round ≤ 64 },
