@@ -1,0 +1,6 @@
+use borrow.Author.Needs.{needs}
+use Rattle.messages.proofs.Figures.{length-flat}
+use Rattle.messages.proofs.writing.Tail.len.Needs as need
+
+pub returns-in-Rows : need.returns-in-Rows
+returns-in-Rows c = search (needs, length-flat)
