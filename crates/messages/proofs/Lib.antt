@@ -3,3 +3,4 @@ pub mod Figures
 pub mod Matches
 pub mod Places
 pub mod Stamps
+pub mod Trip

@@ -6,3 +6,4 @@ pub mod Calls
 pub mod Messages
 pub mod Reading
 pub mod Writing
+pub mod Trips

@@ -1,9 +1,7 @@
 use Prim.Native.Nat.{ℕ, suc}
-use mathlib.Core.Path.{_≡_}
 use mathlib.Core.Bool.{cond}
-use mathlib.Core.List.{List, [], _∷_, _++_}
+use mathlib.Core.List.{List, [], _∷_}
 use lib.ListN.{drop}
-use Rattle.std.specs.shelf.Lists.{joined}
 use Rattle.messages.specs.declared.kinds.Kind.the-variants.{Verb}
 use Rattle.messages.specs.declared.reader.Reader.{Reader}
 use Rattle.messages.specs.Kinds.{isKind}
@@ -26,7 +24,3 @@ messages (w ∷ x ∷ ws) = cond (isKind Verb x) ((w ∷ []) ∷ messages (x ∷
 -- what a reader has still to give
 abbrev pub unread : Reader → List ℕ
 unread s = drop (s .place) (s .words .now)
-
--- the messages of a list, joined, are the list
-abbrev pub Rejoins : Type 0
-Rejoins = (ws : List ℕ) → joined (λ m. m) (messages ws) ≡ ws

@@ -6,5 +6,6 @@ pub mod faults;
 pub mod kinds;
 pub mod reader;
 pub mod reading;
+pub mod trips;
 pub mod verbs;
 pub mod writing;

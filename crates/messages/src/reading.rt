@@ -4,6 +4,8 @@ ghost use mathlib.Core.Path.{_≡_};
 ghost use mathlib.Core.Bool.{true};
 ghost use Prim.Native.Nat.{_≤_};
 ghost use lib.ListN.{length, getD};
+ghost use Rattle.std.specs.Vec.{made};
+ghost use Rattle.messages.specs.Writing.{wordsOf};
 ghost use Rattle.messages.specs.Verbs.{verbOf, first, again};
 ghost use Rattle.messages.specs.Calls.{said};
 ghost use Rattle.messages.specs.Reading.{matched, fills, coming, reading, told, callOf, opening};
@@ -64,6 +66,7 @@ pub fn verb_of(message: &[u32]) -> Option<Verb>
 /// The call that a message makes, with no word copied; or the first word that does not fit.
 pub fn read(message: &[u32]) -> Result<Call<'_>, MessageFault>
     ensures answer { λ r. ⌜ told r ≡ reading (now (message .entry)) ⌝ }
+    ensures back { λ r. ⌜ made r (λ c. wordsOf (said c) ≡ now (message .entry)) ⌝ }
 {
     let Some(verb) = verb_of(message) else {
         return Err(MessageFault::Misfit { place: 0 });

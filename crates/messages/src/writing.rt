@@ -208,6 +208,8 @@ fn put_call(call: &Call, out: &mut [u32]) -> Result<usize, MessageFault>
 /// where `out` is too short, else at the first figure over 28 bits, carrier over 16 bits, or word past a list's 16,384.
 pub fn write(call: &Call, out: &mut [u32]) -> Result<usize, MessageFault>
     ensures outcome { λ r. ⌜ (r, now (out .exit)) ≡ writing (said (now (call .entry))) (now (out .entry)) ⌝ }
+    ensures back { λ r. ⌜ made r (λ n. reading (take n (now (out .exit))) ≡ Ok (said (now (call .entry)))) ⌝ }
+    ensures kept { λ r. ⌜ refused r (λ _. now (out .exit) ≡ now (out .entry)) ⌝ }
 {
     put_call(call, out)
 }

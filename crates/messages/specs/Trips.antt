@@ -1,0 +1,21 @@
+use mathlib.Core.Path.{_≡_}
+use mathlib.Core.List.{List}
+use Prim.Native.Nat.{ℕ}
+use Rattle.std.specs.declared.result.Result.the-variants.{Ok}
+use Rattle.std.specs.shelf.Lists.{joined}
+use Rattle.messages.specs.Calls.{Said}
+use Rattle.messages.specs.Messages.{messages}
+use Rattle.messages.specs.Reading.{reading}
+use Rattle.messages.specs.Writing.{wordsOf, Fits}
+
+-- a call written as a message reads back as that call
+abbrev pub Reads-back : Type 0
+Reads-back = (c : Said) → Fits c → reading (wordsOf c) ≡ Ok c
+
+-- a message that is read and written again has the same words
+abbrev pub Writes-back : Type 0
+Writes-back = (m : List ℕ) (c : Said) → reading m ≡ Ok c → wordsOf c ≡ m
+
+-- the messages of a list, joined, are the list
+abbrev pub Rejoins : Type 0
+Rejoins = (ws : List ℕ) → joined (λ m. m) (messages ws) ≡ ws
