@@ -4,11 +4,15 @@ use native.Mathlib.Omega.{arith}
 use mathlib.Core.Path.{_≡_, refl, sym, ap, _∙_}
 use mathlib.Core.List.{List, [], _∷_, map}
 use lib.ListN.{length, getD}
+use denote.Ref.{RefT}
+use Rattle.std.proofs.shelf.Lists.{length-map}
 use Rattle.measures.specs.declared.Ticks.{Ticks}
 use Rattle.session.specs.Participants.{unlisted}
 use Rattle.messages.specs.declared.calls.OpenRow.{OpenRow}
+use Rattle.messages.specs.declared.calls.Rows.{Rows}
+use Rattle.messages.specs.declared.calls.Rows.the-variants as rows
 use Rattle.messages.specs.Kinds.{figureOf}
-use Rattle.messages.specs.Calls.{rowOf, unwritten, participantFigure, paired, ticks, listedOf}
+use Rattle.messages.specs.Calls.{rowOf, unwritten, participantFigure, paired, ticks, rowsOf, listedOf}
 use Rattle.messages.specs.Writing.{flat}
 
 -- past the end both sides are 0
@@ -54,3 +58,10 @@ pub flat-second : (rs : List OpenRow) (i j : ℕ) → j ≡ 2 * i + 1 → getD (
 flat-second [] i j e = refl
 flat-second (r ∷ rs) zero j e = let z : j ≡ 1 = omega arith in rw z
 flat-second (r ∷ rs) (suc i) j e = let z : j ≡ suc (suc (2 * i + 1)) = omega arith in rw z (flat-second rs i (2 * i + 1) refl)
+
+-- how many rows there are
+pub count-words : (s : Rows) (ws : RefT (List ℕ)) → s ≡ rows.Words ws → length (ws .now) / 2 ≡ length (map listedOf (rowsOf s))
+count-words s ws e = rw e (simp (length-map, length-paired))
+
+pub count-typed : (s : Rows) (rs : RefT (List OpenRow)) → s ≡ rows.Typed rs → length (rs .now) ≡ length (map listedOf (rowsOf s))
+count-typed s rs e = rw e (simp length-map)

@@ -121,10 +121,10 @@ module _ (v : Verb) (fs out : List ℕ) where
   pub writes-over : (i : ℕ) → length fs ≤ length out → Some i ≡ firstOver 0 fs → (Err (Misfit i), out) ≡ writingFigures v fs out
   writes-over i h e = fits-room h (Some i) e
 
-  pub writes-all : (more kinds : List Kind) (n : ℕ) (new : List ℕ) → more ≡ again v → kinds ≡ first v → n ≡ length fs → length fs ≤ length out → None ≡ firstOver 0 fs
-      → new ≡ stamped more kinds fs ++ drop (length fs) out
+  pub writes-all : (n : ℕ) (new : List ℕ) → n ≡ length fs → n ≤ length out → None ≡ firstOver 0 fs
+      → new ≡ stamped (again v) (first v) fs ++ drop n out
       → (Ok n, new) ≡ writingFigures v fs out
-  writes-all more kinds n new m k c h e q = rw (q, m, k, c) (fits-room h None e)
+  writes-all n new c h e q = rw (q, c) (fits-room (omega arith) None e)
 
 -- the figures of begin and open are as many as may come
 pub counted-prices : (ps : List ℕ) → counted (kind.Price ∷ []) [] ps ≡ true

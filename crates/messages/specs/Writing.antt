@@ -16,6 +16,7 @@ use Rattle.messages.specs.declared.faults.MessageFault.the-variants.{Misfit, S
 use Rattle.messages.specs.declared.kinds.Kind.{Kind}
 use Rattle.messages.specs.declared.verbs.Verb.{Verb}
 use Rattle.messages.specs.declared.verbs.Verb.the-variants as verb
+use Rattle.messages.specs.declared.writing.Draft.{Draft}
 use Rattle.messages.specs.declared.writing.Tail.{Tail}
 use Rattle.messages.specs.declared.writing.Tail.the-variants as tail
 use Rattle.messages.specs.Kinds.{wordOf}
@@ -61,10 +62,14 @@ fieldsOf (opened metal time price rows) = time ∷ price ∷ flat rows
 abbrev pub figures : Said → List ℕ
 figures c = verbNumber (verbIn c) ∷ fieldsOf c
 
--- the figures that follow a message's first
+-- the figures that may follow the fixed fields of a message
 abbrev pub tailFigures : Tail → List ℕ
 tailFigures (tail.Prices p) = pricesOf p
 tailFigures (tail.Rows r) = flat (rowsOf r)
+
+-- the figures of a draft
+abbrev pub draftFigures : Draft → List ℕ
+draftFigures d = verbNumber (d .verb) ∷ (d .fields .now ++ tailFigures (d .tail))
 
 -- a figure as a word of the first of these kinds
 abbrev pub stamp : List Kind → ℕ → ℕ

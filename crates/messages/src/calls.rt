@@ -2,8 +2,7 @@
 
 ghost use mathlib.Core.Path.{_≡_};
 ghost use mathlib.Core.List.{map};
-ghost use Prim.Native.Nat.{_<_, _^_};
-ghost use lib.ListN.{length, getD};
+ghost use lib.ListN.{getD};
 ghost use Rattle.messages.specs.Calls.{pricesOf, rowsOf, paired, ticks, participantFigure, rowOf, unwritten, listedOf};
 ghost use Rattle.messages.specs.Kinds.{figureOf};
 use crate::kinds::figure;
@@ -29,22 +28,6 @@ pub enum Prices<'a> {
     Typed(&'a [Ticks]),
 }
 
-/// How many words there are, and that so many lie in memory.
-fn word_count(words: &[u32]) -> usize
-    ensures count { λ r. ⌜ r ≡ length (now (words .entry)) ⌝ }
-    ensures small { λ r. ⌜ r < 2 ^ 62 ⌝ }
-{
-    words.len()
-}
-
-/// How many prices there are, and that so many lie in memory.
-fn price_count(prices: &[Ticks]) -> usize
-    ensures count { λ r. ⌜ r ≡ length (now (prices .entry)) ⌝ }
-    ensures small { λ r. ⌜ r < 2 ^ 62 ⌝ }
-{
-    prices.len()
-}
-
 /// The figure of the word at a place, 0 past the end.
 fn figure_at(words: &[u32], place: usize) -> u32
     ensures { λ r. ⌜ r ≡ getD (map figureOf (now (words .entry))) place 0 ⌝ }
@@ -67,24 +50,14 @@ fn price_at(prices: &[Ticks], place: usize) -> Ticks
     }
 }
 
-impl<'a> Prices<'a> {
-    /// How many there are.
-    pub fn len(&self) -> usize
-        ensures count { λ r. ⌜ r ≡ length (pricesOf (now (self .entry))) ⌝ }
-        ensures small { λ r. ⌜ r < 2 ^ 62 ⌝ }
-    {
-        match *self {
-            Prices::Words(words) => word_count(words),
-            Prices::Typed(prices) => price_count(prices),
-        }
-    }
-}
-
 pub impl<'a> PriceList for Prices<'a> as PricesListed {
     ghost prices = { pricesOf };
 
     fn count(&self) -> usize {
-        self.len()
+        match *self {
+            Prices::Words(words) => words.len(),
+            Prices::Typed(prices) => prices.len(),
+        }
     }
 
     fn price(&self, place: usize) -> Ticks {
@@ -137,14 +110,6 @@ pub enum Rows<'a> {
     Typed(&'a [OpenRow]),
 }
 
-/// How many rows there are, and that so many lie in memory.
-fn row_count(rows: &[OpenRow]) -> usize
-    ensures count { λ r. ⌜ r ≡ length (now (rows .entry)) ⌝ }
-    ensures small { λ r. ⌜ r < 2 ^ 62 ⌝ }
-{
-    rows.len()
-}
-
 /// The row of the words at twice its number, and behind; one of noughts past the last whole row.
 fn pair_at(words: &[u32], row: usize) -> OpenRow
     ensures { λ r. ⌜ r ≡ getD (paired (map figureOf (now (words .entry)))) row unwritten ⌝ }
@@ -168,17 +133,6 @@ fn row_at(rows: &[OpenRow], row: usize) -> OpenRow
 }
 
 impl<'a> Rows<'a> {
-    /// How many there are.
-    pub fn len(&self) -> usize
-        ensures count { λ r. ⌜ r ≡ length (rowsOf (now (self .entry))) ⌝ }
-        ensures small { λ r. ⌜ r < 2 ^ 62 ⌝ }
-    {
-        match *self {
-            Rows::Words(words) => word_count(words) / 2,
-            Rows::Typed(rows) => row_count(rows),
-        }
-    }
-
     /// The row at a place; one of noughts past the end.
     pub fn at(&self, row: usize) -> OpenRow
         ensures { λ r. ⌜ r ≡ getD (rowsOf (now (self .entry))) row unwritten ⌝ }
@@ -194,7 +148,10 @@ pub impl<'a> Roster for Rows<'a> as RowsListed {
     ghost listed = { λ s. map listedOf (rowsOf s) };
 
     fn rows(&self) -> usize {
-        self.len()
+        match *self {
+            Rows::Words(words) => words.len() / 2,
+            Rows::Typed(rows) => rows.len(),
+        }
     }
 
     fn participant(&self, row: usize) -> Listed {

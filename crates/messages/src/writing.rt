@@ -2,28 +2,29 @@
 
 ghost use mathlib.Core.Path.{_≡_};
 ghost use mathlib.Core.Bool.{true};
-ghost use mathlib.Core.List.{_++_};
+ghost use mathlib.Core.List.{_∷_, _++_};
 ghost use Prim.Native.Nat.{_≤_, _<_, _^_};
 ghost use lib.ListN.{length, getD, take, drop};
 ghost use Rattle.std.specs.Vec.{made, refused};
 ghost use Rattle.std.specs.declared.result.Result.the-variants.{Ok};
-ghost use Rattle.messages.specs.Verbs.{first, again};
+ghost use Rattle.messages.specs.Verbs.{verbNumber, first, again};
 ghost use Rattle.messages.specs.Calls.{said};
 ghost use Rattle.messages.specs.Reading.{reading};
-ghost use Rattle.messages.specs.Writing.{opens, tailFigures, stamped, counted, writable, firstOver, writingFigures, writing};
+ghost use Rattle.messages.specs.Writing.{opens, tailFigures, draftFigures, stamped, counted, writable, firstOver, writingFigures, writing};
 use crate::calls::Call;
 use crate::calls::Metal;
 use crate::calls::Prices;
 use crate::calls::PricesListed;
 use crate::calls::Rows;
+use crate::calls::RowsListed;
 use crate::faults::MessageFault;
-use crate::kinds::Kind;
 use crate::kinds::word;
 use crate::reading::coming;
 use crate::verbs::Verb;
 use session::lists::PriceList;
+use session::lists::Roster;
 
-/// What follows a message's first figures.
+/// What may follow the fixed fields of a message.
 #[derive(Clone, Copy)]
 enum Tail<'a> {
     Prices(Prices<'a>),
@@ -31,19 +32,19 @@ enum Tail<'a> {
 }
 
 impl<'a> Tail<'a> {
-    /// How many figures there are.
-    fn len(self) -> usize
+    /// How many figures there are, in a type that holds twice any count.
+    fn len(self) -> u128
         ensures count { λ r. ⌜ r ≡ length (tailFigures (self .entry)) ⌝ }
-        ensures small { λ r. ⌜ r < 2 ^ 63 ⌝ }
+        ensures small { λ r. ⌜ r < 2 ^ 65 ⌝ }
     {
         match self {
-            Tail::Prices(prices) => prices.len(),
-            Tail::Rows(rows) => 2 * rows.len(),
+            Tail::Prices(prices) => prices.count() as u128,
+            Tail::Rows(rows) => 2 * rows.rows() as u128,
         }
     }
 
     /// The figure at a place, 0 past the end.
-    fn figure(self, place: usize) -> u32
+    fn at(self, place: usize) -> u32
         ensures { λ r. ⌜ r ≡ getD (tailFigures (self .entry)) place 0 ⌝ }
     {
         match self {
@@ -60,14 +61,35 @@ impl<'a> Tail<'a> {
     }
 }
 
-/// The figure at a place of `head` and, behind it, of `tail`.
-fn figure_at(head: &[u32], tail: Tail, place: usize) -> u32
-    ensures { λ r. ⌜ r ≡ getD (now (head .entry) ++ tailFigures (tail .entry)) place 0 ⌝ }
-{
-    if place < head.len() {
-        head[place]
-    } else {
-        tail.figure(place - head.len())
+/// A message before it is written: its verb, its fixed fields, and what follows them.
+#[derive(Clone, Copy)]
+struct Draft<'f, 't> {
+    verb: Verb,
+    fields: &'f [u32],
+    tail: Tail<'t>,
+}
+
+impl<'f, 't> Draft<'f, 't> {
+    /// How many figures there are.
+    fn len(self) -> u128
+        ensures { λ r. ⌜ r ≡ length (draftFigures (self .entry)) ⌝ }
+    {
+        1 + self.fields.len() as u128 + self.tail.len()
+    }
+
+    /// The figure at a place, 0 past the end.
+    fn at(self, place: usize) -> u32
+        ensures { λ r. ⌜ r ≡ getD (draftFigures (self .entry)) place 0 ⌝ }
+    {
+        if place == 0 {
+            return self.verb.number();
+        }
+        let behind = place - 1;
+        if behind < self.fields.len() {
+            self.fields[behind]
+        } else {
+            self.tail.at(behind - self.fields.len())
+        }
     }
 }
 
@@ -79,12 +101,12 @@ fn writable(place: usize, figure: u32) -> bool
 }
 
 /// The first place whose figure cannot be written there.
-fn first_over(head: &[u32], tail: Tail) -> Option<usize>
-    requires { ⌜ length (now head) ≤ 5 ⌝ }
-    ensures { λ r. ⌜ r ≡ firstOver 0 (now (head .entry) ++ tailFigures (tail .entry)) ⌝ }
+fn first_over(draft: Draft, len: usize) -> Option<usize>
+    requires { ⌜ len ≡ length (draftFigures draft) ⌝ }
+    ensures { λ r. ⌜ r ≡ firstOver 0 (draftFigures (draft .entry)) ⌝ }
 {
-    for place in 0..head.len() + tail.len() {
-        if !writable(place, figure_at(head, tail, place)) {
+    for place in 0..len {
+        if !writable(place, draft.at(place)) {
             return Some(place);
         }
     }
@@ -92,46 +114,47 @@ fn first_over(head: &[u32], tail: Tail) -> Option<usize>
 }
 
 /// Writes the figures as words of the kinds that have to come.
-fn fill(kinds: &[Kind], more: &[Kind], head: &[u32], tail: Tail, out: &mut [u32])
-    requires counted { ⌜ counted (now more) (now kinds) (now head ++ tailFigures tail) ≡ true ⌝ }
-    requires room { ⌜ length (now head ++ tailFigures tail) ≤ length (now out) ⌝ }
-    requires short { ⌜ length (now head) ≤ 5 ⌝ }
-    ensures { λ _. ⌜ now (out .exit) ≡ stamped (now (more .entry)) (now (kinds .entry)) (now (head .entry) ++ tailFigures (tail .entry)) ++ drop (length (now (head .entry) ++ tailFigures (tail .entry))) (now (out .entry)) ⌝ }
+fn fill(draft: Draft, len: usize, out: &mut [u32])
+    requires counted { ⌜ counted (again (draft .verb)) (first (draft .verb)) (draftFigures draft) ≡ true ⌝ }
+    requires whole { ⌜ len ≡ length (draftFigures draft) ⌝ }
+    requires room { ⌜ len ≤ length (now out) ⌝ }
+    ensures { λ _. ⌜ now (out .exit) ≡ stamped (again (draft .entry .verb)) (first (draft .entry .verb)) (draftFigures (draft .entry)) ++ drop len (now (out .entry)) ⌝ }
 {
-    let mut left = kinds;
-    for place in 0..head.len() + tail.len() {
+    let more = draft.verb.again();
+    let mut left = draft.verb.first();
+    for place in 0..len {
         let [kind, rest @ ..] = coming(more, left) else {
             unreachable()
         };
-        out[place] = word(*kind, figure_at(head, tail, place));
+        out[place] = word(*kind, draft.at(place));
         left = rest;
     }
 }
 
-/// Writes a message of a verb, with the figures of `head` and `tail`, unless one does not fit.
-fn put(verb: Verb, head: &[u32], tail: Tail, out: &mut [u32]) -> Result<usize, MessageFault>
-    requires counted { ⌜ counted (again verb) (first verb) (now head ++ tailFigures tail) ≡ true ⌝ }
-    requires short { ⌜ length (now head) ≤ 5 ⌝ }
-    ensures { λ r. ⌜ (r, now (out .exit)) ≡ writingFigures verb (now (head .entry) ++ tailFigures (tail .entry)) (now (out .entry)) ⌝ }
+/// Writes a draft, unless there is no room for it or a figure does not fit.
+fn put(draft: Draft, out: &mut [u32]) -> Result<usize, MessageFault>
+    requires { ⌜ counted (again (draft .verb)) (first (draft .verb)) (draftFigures draft) ≡ true ⌝ }
+    ensures { λ r. ⌜ (r, now (out .exit)) ≡ writingFigures (draft .entry .verb) (draftFigures (draft .entry)) (now (out .entry)) ⌝ }
 {
-    let len = head.len() + tail.len();
-    if out.len() < len {
+    let words = draft.len();
+    if (out.len() as u128) < words {
         return Err(MessageFault::Short);
     }
-    if let Some(place) = first_over(head, tail) {
+    let len = words as usize;
+    if let Some(place) = first_over(draft, len) {
         return Err(MessageFault::Misfit { place });
     }
-    fill(verb.first(), verb.again(), head, tail, out);
+    fill(draft, len, out);
     Ok(len)
 }
 
-/// Writes a message of a verb with the figures of `head` alone.
-fn put_head(verb: Verb, head: &[u32], out: &mut [u32]) -> Result<usize, MessageFault>
-    requires counted { ⌜ counted (again verb) (first verb) (now head) ≡ true ⌝ }
-    requires short { ⌜ length (now head) ≤ 5 ⌝ }
-    ensures { λ r. ⌜ (r, now (out .exit)) ≡ writingFigures verb (now (head .entry)) (now (out .entry)) ⌝ }
+/// Writes a message that ends with its fixed fields.
+fn put_fields(verb: Verb, fields: &[u32], out: &mut [u32]) -> Result<usize, MessageFault>
+    requires { ⌜ counted (again verb) (first verb) (verbNumber verb ∷ now fields) ≡ true ⌝ }
+    ensures { λ r. ⌜ (r, now (out .exit)) ≡ writingFigures verb (verbNumber verb ∷ now (fields .entry)) (now (out .entry)) ⌝ }
 {
-    put(verb, head, Tail::Prices(Prices::Words(&[])), out)
+    let tail = Tail::Prices(Prices::Words(&[]));
+    put(Draft { verb, fields, tail }, out)
 }
 
 /// The verb that opens a session.
@@ -149,57 +172,21 @@ fn put_call(call: &Call, out: &mut [u32]) -> Result<usize, MessageFault>
     ensures { λ r. ⌜ (r, now (out .exit)) ≡ writing (said (now (call .entry))) (now (out .entry)) ⌝ }
 {
     match *call {
-        Call::Quote { time, row, price } => put_head(
-            Verb::Quote,
-            &[Verb::Quote.number(), time, row, price.0],
-            out,
-        ),
-        Call::Begin { time, prices } => put(
-            Verb::Begin,
-            &[Verb::Begin.number(), time],
-            Tail::Prices(prices),
-            out,
-        ),
-        Call::Buy { time, row, lots } => put_head(
-            Verb::Buy,
-            &[Verb::Buy.number(), time, row, lots.0],
-            out,
-        ),
-        Call::Sell { time, row, lots } => put_head(
-            Verb::Sell,
-            &[Verb::Sell.number(), time, row, lots.0],
-            out,
-        ),
-        Call::Reduce {
-            time,
-            row,
-            line,
-            lots,
-        } => put_head(
-            Verb::Reduce,
-            &[Verb::Reduce.number(), time, row, line, lots.0],
-            out,
-        ),
-        Call::Close { time } => put_head(Verb::Close, &[Verb::Close.number(), time], out),
-        Call::Suspend { time } => put_head(Verb::Suspend, &[Verb::Suspend.number(), time], out),
-        Call::Reissue { time, price } => put_head(
-            Verb::Reissue,
-            &[Verb::Reissue.number(), time, price.0],
-            out,
-        ),
-        Call::Announce { time, price } => put_head(
-            Verb::Announce,
-            &[Verb::Announce.number(), time, price.0],
-            out,
-        ),
-        Call::Open {
-            time,
-            metal,
-            price,
-            rows,
-        } => {
-            let verb = opens(metal);
-            put(verb, &[verb.number(), time, price.0], Tail::Rows(rows), out)
+        Call::Quote { time, row, price } => put_fields(Verb::Quote, &[time, row, price.0], out),
+        Call::Begin { time, prices } => {
+            let tail = Tail::Prices(prices);
+            put(Draft { verb: Verb::Begin, fields: &[time], tail }, out)
+        }
+        Call::Buy { time, row, lots } => put_fields(Verb::Buy, &[time, row, lots.0], out),
+        Call::Sell { time, row, lots } => put_fields(Verb::Sell, &[time, row, lots.0], out),
+        Call::Reduce { time, row, line, lots } => put_fields(Verb::Reduce, &[time, row, line, lots.0], out),
+        Call::Close { time } => put_fields(Verb::Close, &[time], out),
+        Call::Suspend { time } => put_fields(Verb::Suspend, &[time], out),
+        Call::Reissue { time, price } => put_fields(Verb::Reissue, &[time, price.0], out),
+        Call::Announce { time, price } => put_fields(Verb::Announce, &[time, price.0], out),
+        Call::Open { time, metal, price, rows } => {
+            let tail = Tail::Rows(rows);
+            put(Draft { verb: opens(metal), fields: &[time, price.0], tail }, out)
         }
     }
 }

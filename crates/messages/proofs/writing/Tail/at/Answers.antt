@@ -1,9 +1,8 @@
-use borrow.Author.Needs.{needs}
 use native.Mathlib.Omega.{arith}
 use mathlib.Core.Path.{sym, ap, _∙_}
 use Rattle.messages.specs.Calls.{rowsOf, participantFigure}
 use Rattle.messages.proofs.Figures.{flat-first, flat-second}
-use Rattle.messages.proofs.writing.Tail.figure.Needs as need
+use Rattle.messages.proofs.writing.Tail.at.Needs as need
 
 pub returns-then-place-eq0 : need.returns-then-place-eq0
 returns-then-place-eq0 c =
