@@ -238,24 +238,30 @@ writes-back m c e = from-verb (verbOf (getD m 0 0)) m c refl e
 -- ---- a call that is written at the front of a list
 
 Comes-back : Said → List ℕ → Result ℕ MessageFault × List ℕ → Type 0
-Comes-back c out p = made (p .0) (λ n. reading (take n (p .1)) ≡ Ok c) × refused (p .0) (λ _. p .1 ≡ out)
+Comes-back c out p = made (p .0) (λ n. take n (p .1) ≡ wordsOf c) × made (p .0) (λ n. reading (take n (p .1)) ≡ Ok c) × refused (p .0) (λ _. p .1 ≡ out)
 
 comes-back : (c : Said) (out : List ℕ) (t : Bool) (o : Option ℕ) → firstOver 0 (figures c) ≡ o
     → Comes-back c out (cond t (Err Short, out) (writtenUnless o (verbIn c) (figures c) out))
 unfolding Comes-back
-comes-back c out true o e = (tt, refl)
-comes-back c out false (Some i) e = (tt, refl)
+comes-back c out true o e = (tt, tt, refl)
+comes-back c out false (Some i) e = (tt, tt, refl)
 comes-back c out false None e =
-    (ap reading (take-at (wordsOf c) _ (length (figures c)) (length-stamped (again (verbIn c)) (first (verbIn c)) (figures c))) ∙ reads-back c (fits-from-over (figures c) 0 e), tt)
+    let front : take (length (figures c)) (wordsOf c ++ drop (length (figures c)) out) ≡ wordsOf c =
+    take-at (wordsOf c) _ (length (figures c)) (length-stamped (again (verbIn c)) (first (verbIn c)) (figures c)) in
+    (front, ap reading front ∙ reads-back c (fits-from-over (figures c) 0 e), tt)
 
 module _ (c : Said) (out new : List ℕ) (r : Result ℕ MessageFault) (e : (r, new) ≡ writing c out) where
   written : Comes-back c out (r, new)
   written = subst (Comes-back c out) (sym e) (comes-back c out (ltb (length out) (length (figures c))) (firstOver 0 (figures c)) refl)
 
+  pub written-front : made r (λ n. take n new ≡ wordsOf c)
+  unfolding Comes-back
+  written-front = written .0
+
   pub written-back : made r (λ n. reading (take n new) ≡ Ok c)
   unfolding Comes-back
-  written-back = written .0
+  written-back = written .1
 
   pub written-kept : refused r (λ _. new ≡ out)
   unfolding Comes-back
-  written-kept = written .1
+  written-kept = written .2

@@ -32,8 +32,8 @@ abbrev pub rowOf : ℕ → ℕ → OpenRow
 rowOf p m = record { kind = p / 65536; carrier = p % 65536; millions = m }
 
 -- what stands past the end of the rows
-abbrev pub unwritten : OpenRow
-unwritten = rowOf 0 0
+abbrev pub blankRow : OpenRow
+blankRow = rowOf 0 0
 
 -- a participant as one figure; one with a kind over 12 bits or a carrier over 16 has none, and 2 ^ 28, which no word holds, stands for it
 abbrev pub participantFigure : OpenRow → ℕ

@@ -9,12 +9,12 @@ use Rattle.messages.specs.Reading.{reading}
 use Rattle.messages.specs.Writing.{wordsOf, Fits}
 
 -- a call written as a message reads back as that call
-abbrev pub Reads-back : Type 0
-Reads-back = (c : Said) → Fits c → reading (wordsOf c) ≡ Ok c
+abbrev pub ReadsBack : Type 0
+ReadsBack = (c : Said) → Fits c → reading (wordsOf c) ≡ Ok c
 
 -- a message that is read and written again has the same words
-abbrev pub Writes-back : Type 0
-Writes-back = (m : List ℕ) (c : Said) → reading m ≡ Ok c → wordsOf c ≡ m
+abbrev pub WritesBack : Type 0
+WritesBack = (m : List ℕ) (c : Said) → reading m ≡ Ok c → wordsOf c ≡ m
 
 -- the messages of a list, joined, are the list
 abbrev pub Rejoins : Type 0

@@ -3,7 +3,7 @@
 ghost use mathlib.Core.Path.{_≡_};
 ghost use mathlib.Core.List.{map};
 ghost use lib.ListN.{getD};
-ghost use Rattle.messages.specs.Calls.{pricesOf, rowsOf, paired, ticks, participantFigure, rowOf, unwritten, listedOf};
+ghost use Rattle.messages.specs.Calls.{pricesOf, rowsOf, paired, ticks, participantFigure, rowOf, blankRow, listedOf};
 ghost use Rattle.messages.specs.Kinds.{figureOf};
 use crate::kinds::figure;
 use measures::Lots;
@@ -112,7 +112,7 @@ pub enum Rows<'a> {
 
 /// The row of the words at twice its number, and behind; one of noughts past the last whole row.
 fn pair_at(words: &[u32], row: usize) -> OpenRow
-    ensures { λ r. ⌜ r ≡ getD (paired (map figureOf (now (words .entry)))) row unwritten ⌝ }
+    ensures { λ r. ⌜ r ≡ getD (paired (map figureOf (now (words .entry)))) row blankRow ⌝ }
 {
     if row < words.len() / 2 {
         OpenRow::of(figure(words[2 * row]), figure(words[2 * row + 1]))
@@ -123,7 +123,7 @@ fn pair_at(words: &[u32], row: usize) -> OpenRow
 
 /// The row at a place; one of noughts past the end.
 fn row_at(rows: &[OpenRow], row: usize) -> OpenRow
-    ensures { λ r. ⌜ r ≡ getD (now (rows .entry)) row unwritten ⌝ }
+    ensures { λ r. ⌜ r ≡ getD (now (rows .entry)) row blankRow ⌝ }
 {
     if row < rows.len() {
         rows[row]
@@ -135,7 +135,7 @@ fn row_at(rows: &[OpenRow], row: usize) -> OpenRow
 impl<'a> Rows<'a> {
     /// The row at a place; one of noughts past the end.
     pub fn at(&self, row: usize) -> OpenRow
-        ensures { λ r. ⌜ r ≡ getD (rowsOf (now (self .entry))) row unwritten ⌝ }
+        ensures { λ r. ⌜ r ≡ getD (rowsOf (now (self .entry))) row blankRow ⌝ }
     {
         match *self {
             Rows::Words(words) => pair_at(words, row),

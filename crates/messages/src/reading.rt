@@ -2,13 +2,12 @@
 
 ghost use mathlib.Core.Path.{_≡_};
 ghost use mathlib.Core.Bool.{true};
-ghost use Prim.Native.Nat.{_≤_};
 ghost use lib.ListN.{length, getD};
 ghost use Rattle.std.specs.Vec.{made};
 ghost use Rattle.messages.specs.Writing.{wordsOf};
 ghost use Rattle.messages.specs.Verbs.{verbOf, first, again};
 ghost use Rattle.messages.specs.Calls.{said};
-ghost use Rattle.messages.specs.Reading.{matched, fills, coming, reading, told, callOf, opening};
+ghost use Rattle.messages.specs.Reading.{matched, fills, coming, reading, told, callOf};
 use crate::calls::Call;
 use crate::calls::Metal;
 use crate::calls::Prices;
@@ -80,104 +79,58 @@ fn call_of(verb: Verb, message: &[u32]) -> Call<'_>
     requires { ⌜ fills (again verb) (first verb) (length (now message)) ≡ true ⌝ }
     ensures { λ r. ⌜ said r ≡ callOf verb (now (message .entry)) ⌝ }
 {
-    match verb {
-        Verb::Quote => {
-            let [_, time, row, price] = message else {
-                unreachable()
-            };
-            Call::Quote {
-                time: figure(*time),
-                row: figure(*row),
-                price: Ticks(figure(*price)),
-            }
-        }
-        Verb::Begin => {
-            let [_, time, prices @ ..] = message else {
-                unreachable()
-            };
-            Call::Begin {
-                time: figure(*time),
-                prices: Prices::Words(prices),
-            }
-        }
-        Verb::Buy => {
-            let [_, time, row, lots] = message else {
-                unreachable()
-            };
-            Call::Buy {
-                time: figure(*time),
-                row: figure(*row),
-                lots: Lots(figure(*lots)),
-            }
-        }
-        Verb::Sell => {
-            let [_, time, row, lots] = message else {
-                unreachable()
-            };
-            Call::Sell {
-                time: figure(*time),
-                row: figure(*row),
-                lots: Lots(figure(*lots)),
-            }
-        }
-        Verb::Reduce => {
-            let [_, time, row, line, lots] = message else {
-                unreachable()
-            };
-            Call::Reduce {
-                time: figure(*time),
-                row: figure(*row),
-                line: figure(*line),
-                lots: Lots(figure(*lots)),
-            }
-        }
-        Verb::Close => {
-            let [_, time] = message else { unreachable() };
-            Call::Close {
-                time: figure(*time),
-            }
-        }
-        Verb::Suspend => {
-            let [_, time] = message else { unreachable() };
-            Call::Suspend {
-                time: figure(*time),
-            }
-        }
-        Verb::Reissue => {
-            let [_, time, price] = message else {
-                unreachable()
-            };
-            Call::Reissue {
-                time: figure(*time),
-                price: Ticks(figure(*price)),
-            }
-        }
-        Verb::Announce => {
-            let [_, time, price] = message else {
-                unreachable()
-            };
-            Call::Announce {
-                time: figure(*time),
-                price: Ticks(figure(*price)),
-            }
-        }
-        Verb::OpenGold => open_of(Metal::Gold, message),
-        Verb::OpenSilver => open_of(Metal::Silver, message),
-    }
-}
-
-/// The opening that a message makes.
-fn open_of(metal: Metal, message: &[u32]) -> Call<'_>
-    requires { ⌜ 3 ≤ length (now message) ⌝ }
-    ensures { λ r. ⌜ said r ≡ opening metal (now (message .entry)) ⌝ }
-{
-    let [_, time, price, rows @ ..] = message else {
-        unreachable()
-    };
-    Call::Open {
-        time: figure(*time),
-        metal,
-        price: Ticks(figure(*price)),
-        rows: Rows::Words(rows),
+    match (verb, message) {
+        (Verb::Quote, [_, time, row, price]) => Call::Quote {
+            time: figure(*time),
+            row: figure(*row),
+            price: Ticks(figure(*price)),
+        },
+        (Verb::Begin, [_, time, prices @ ..]) => Call::Begin {
+            time: figure(*time),
+            prices: Prices::Words(prices),
+        },
+        (Verb::Buy, [_, time, row, lots]) => Call::Buy {
+            time: figure(*time),
+            row: figure(*row),
+            lots: Lots(figure(*lots)),
+        },
+        (Verb::Sell, [_, time, row, lots]) => Call::Sell {
+            time: figure(*time),
+            row: figure(*row),
+            lots: Lots(figure(*lots)),
+        },
+        (Verb::Reduce, [_, time, row, line, lots]) => Call::Reduce {
+            time: figure(*time),
+            row: figure(*row),
+            line: figure(*line),
+            lots: Lots(figure(*lots)),
+        },
+        (Verb::Close, [_, time]) => Call::Close {
+            time: figure(*time),
+        },
+        (Verb::Suspend, [_, time]) => Call::Suspend {
+            time: figure(*time),
+        },
+        (Verb::Reissue, [_, time, price]) => Call::Reissue {
+            time: figure(*time),
+            price: Ticks(figure(*price)),
+        },
+        (Verb::Announce, [_, time, price]) => Call::Announce {
+            time: figure(*time),
+            price: Ticks(figure(*price)),
+        },
+        (Verb::OpenGold, [_, time, price, rows @ ..]) => Call::Open {
+            time: figure(*time),
+            metal: Metal::Gold,
+            price: Ticks(figure(*price)),
+            rows: Rows::Words(rows),
+        },
+        (Verb::OpenSilver, [_, time, price, rows @ ..]) => Call::Open {
+            time: figure(*time),
+            metal: Metal::Silver,
+            price: Ticks(figure(*price)),
+            rows: Rows::Words(rows),
+        },
+        _ => unreachable(),
     }
 }

@@ -1,13 +1,22 @@
 //! What is written reads back, and what is read writes back.
 
-ghost use Rattle.messages.specs.Trips.{Reads-back, Writes-back, Rejoins};
+ghost use mathlib.Core.Path.{_≡_};
+ghost use lib.ListN.{take};
+ghost use Rattle.std.specs.Vec.{made};
+ghost use Rattle.messages.specs.Trips.{ReadsBack, WritesBack, Rejoins};
+use crate::faults::MessageFault;
+use crate::reading::read;
+use crate::writing::write;
 
-/// Stands for three theorems: a call that is written reads back as that call, a message that is read writes back as its
-/// words, and the messages of a list, joined, are the list.
-pub fn trips_stand() -> u8
-    ensures back { λ _. ⌜ Reads-back ⌝ }
-    ensures again { λ _. ⌜ Writes-back ⌝ }
-    ensures joined { λ _. ⌜ Rejoins ⌝ }
+/// Reads a message and writes it again at the front of `out`: the same words. Its contract also states what that rests on:
+/// a call that is written reads back as that call, a message that is read writes back as its words, and the messages of a
+/// list, joined, are the list.
+pub fn rewrite(message: &[u32], out: &mut [u32]) -> Result<usize, MessageFault>
+    ensures same { λ r. ⌜ made r (λ n. take n (now (out .exit)) ≡ now (message .entry)) ⌝ }
+    ensures reads { λ _. ⌜ ReadsBack ⌝ }
+    ensures writes { λ _. ⌜ WritesBack ⌝ }
+    ensures rejoins { λ _. ⌜ Rejoins ⌝ }
 {
-    0
+    let call = read(message)?;
+    write(&call, out)
 }

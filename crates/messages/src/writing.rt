@@ -10,7 +10,7 @@ ghost use Rattle.std.specs.declared.result.Result.the-variants.{Ok};
 ghost use Rattle.messages.specs.Verbs.{verbNumber, first, again};
 ghost use Rattle.messages.specs.Calls.{said};
 ghost use Rattle.messages.specs.Reading.{reading};
-ghost use Rattle.messages.specs.Writing.{opens, tailFigures, draftFigures, stamped, counted, writable, firstOver, writingFigures, writing};
+ghost use Rattle.messages.specs.Writing.{opens, tailFigures, draftFigures, stamped, counted, wordsOf, writable, firstOver, writingFigures, writing};
 use crate::calls::Call;
 use crate::calls::Metal;
 use crate::calls::Prices;
@@ -175,18 +175,42 @@ fn put_call(call: &Call, out: &mut [u32]) -> Result<usize, MessageFault>
         Call::Quote { time, row, price } => put_fields(Verb::Quote, &[time, row, price.0], out),
         Call::Begin { time, prices } => {
             let tail = Tail::Prices(prices);
-            put(Draft { verb: Verb::Begin, fields: &[time], tail }, out)
+            put(
+                Draft {
+                    verb: Verb::Begin,
+                    fields: &[time],
+                    tail,
+                },
+                out,
+            )
         }
         Call::Buy { time, row, lots } => put_fields(Verb::Buy, &[time, row, lots.0], out),
         Call::Sell { time, row, lots } => put_fields(Verb::Sell, &[time, row, lots.0], out),
-        Call::Reduce { time, row, line, lots } => put_fields(Verb::Reduce, &[time, row, line, lots.0], out),
+        Call::Reduce {
+            time,
+            row,
+            line,
+            lots,
+        } => put_fields(Verb::Reduce, &[time, row, line, lots.0], out),
         Call::Close { time } => put_fields(Verb::Close, &[time], out),
         Call::Suspend { time } => put_fields(Verb::Suspend, &[time], out),
         Call::Reissue { time, price } => put_fields(Verb::Reissue, &[time, price.0], out),
         Call::Announce { time, price } => put_fields(Verb::Announce, &[time, price.0], out),
-        Call::Open { time, metal, price, rows } => {
+        Call::Open {
+            time,
+            metal,
+            price,
+            rows,
+        } => {
             let tail = Tail::Rows(rows);
-            put(Draft { verb: opens(metal), fields: &[time, price.0], tail }, out)
+            put(
+                Draft {
+                    verb: opens(metal),
+                    fields: &[time, price.0],
+                    tail,
+                },
+                out,
+            )
         }
     }
 }
@@ -195,6 +219,7 @@ fn put_call(call: &Call, out: &mut [u32]) -> Result<usize, MessageFault>
 /// where `out` is too short, else at the first figure over 28 bits, carrier over 16 bits, or word past a list's 16,384.
 pub fn write(call: &Call, out: &mut [u32]) -> Result<usize, MessageFault>
     ensures outcome { λ r. ⌜ (r, now (out .exit)) ≡ writing (said (now (call .entry))) (now (out .entry)) ⌝ }
+    ensures front { λ r. ⌜ made r (λ n. take n (now (out .exit)) ≡ wordsOf (said (now (call .entry)))) ⌝ }
     ensures back { λ r. ⌜ made r (λ n. reading (take n (now (out .exit))) ≡ Ok (said (now (call .entry)))) ⌝ }
     ensures kept { λ r. ⌜ refused r (λ _. now (out .exit) ≡ now (out .entry)) ⌝ }
 {

@@ -5,7 +5,7 @@ use mathlib.Core.Path.{_≡_, sym, _∙_}
 use mathlib.Core.List.{List, map}
 use lib.ListN.{length, getD}
 use Rattle.std.proofs.shelf.Lists.{getD-past, length-map}
-use Rattle.messages.specs.Calls.{rowOf, unwritten, paired}
+use Rattle.messages.specs.Calls.{rowOf, blankRow, paired}
 use Rattle.messages.specs.Kinds.{figureOf}
 use Rattle.messages.proofs.Figures.{length-paired, getD-paired, getD-figures}
 use Rattle.messages.proofs.calls.pair_at.Needs as need
@@ -18,4 +18,4 @@ returns-then-row-words c =
 pub returns-else-row-words : need.returns-else-row-words
 returns-else-row-words c =
     c .of-else-row-words .ensures
-    ∙ sym (getD-past (paired (map figureOf (c .args .words .now))) (c .args .row) unwritten (simp (length-paired, length-map) (c .if-row-words .left)))
+    ∙ sym (getD-past (paired (map figureOf (c .args .words .now))) (c .args .row) blankRow (simp (length-paired, length-map) (c .if-row-words .left)))
