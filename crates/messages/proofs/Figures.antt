@@ -8,12 +8,13 @@ use denote.Ref.{RefT}
 use Rattle.std.proofs.shelf.Lists.{length-map, getD-append-left, getD-append-right}
 use Rattle.measures.specs.declared.Ticks.{Ticks}
 use Rattle.session.specs.Participants.{unlisted}
-use Rattle.messages.specs.declared.calls.OpenRow.{OpenRow}
-use Rattle.messages.specs.declared.calls.Rows.{Rows}
-use Rattle.messages.specs.declared.calls.Rows.the-variants as rows
+use Rattle.messages.specs.declared.rows.OpenRow.{OpenRow}
+use Rattle.messages.specs.declared.rows.Rows.{Rows}
+use Rattle.messages.specs.declared.rows.Rows.the-variants as rows
 use Rattle.messages.specs.Kinds.{figureOf}
-use Rattle.messages.specs.Calls.{rowOf, blankRow, participantFigure, paired, ticks, rowsOf, listedOf}
-use Rattle.messages.specs.Writing.{flat}
+use Rattle.messages.specs.Prices.{ticks}
+use Rattle.messages.specs.Rows.{rowOf, blankRow, participantFigure, paired, rowsOf, listedOf}
+use Rattle.messages.specs.Rows.{flat}
 
 -- past the end both sides are 0
 pub getD-figures : (ws : List ℕ) (i : ℕ) → getD (map figureOf ws) i 0 ≡ figureOf (getD ws i 0)

@@ -18,13 +18,14 @@ use Rattle.messages.specs.declared.faults.MessageFault.the-variants.{Misfit, S
 use Rattle.messages.specs.declared.verbs.Verb.{Verb}
 use Rattle.messages.specs.declared.kinds.Kind.{Kind}
 use Rattle.messages.specs.declared.kinds.Kind.the-variants as kind
-use Rattle.messages.specs.declared.calls.OpenRow.{OpenRow}
+use Rattle.messages.specs.declared.rows.OpenRow.{OpenRow}
 use Rattle.messages.specs.declared.calls.Metal.{Metal}
 use Rattle.messages.specs.declared.calls.Metal.the-variants.{Gold, Silver}
 use Rattle.messages.specs.Kinds.{wordOf}
 use Rattle.messages.specs.Verbs.{first, again}
 use Rattle.messages.specs.Reading.{coming}
-use Rattle.messages.specs.Writing.{opens, flat, stamp, stamped, counted, writable, firstOver, writtenUnless, writingFigures}
+use Rattle.messages.specs.Writing.{opens, stamp, stamped, counted, writable, firstOver, writtenUnless, writingFigures}
+use Rattle.messages.specs.Rows.{flat}
 
 -- after i figures: what was written, and what is still to be stamped
 pub record Filled (more kinds left : List Kind) (fs : List ℕ) (i : ℕ) (was now : List ℕ) : Type 0 where

@@ -17,7 +17,7 @@ use Rattle.std.proofs.shelf.Ways.{tells}
 use Rattle.std.proofs.shelf.Lists.{drop-more, drop-all, take-at}
 use Rattle.messages.specs.declared.kinds.Kind.{Kind}
 use Rattle.messages.specs.declared.kinds.Kind.the-variants as kind
-use Rattle.messages.specs.declared.calls.OpenRow.{OpenRow}
+use Rattle.messages.specs.declared.rows.OpenRow.{OpenRow}
 use Rattle.messages.specs.declared.calls.Metal.the-variants.{Gold, Silver}
 use Rattle.messages.specs.declared.verbs.Verb.{Verb}
 use Rattle.messages.specs.declared.verbs.Verb.the-variants.{Quote, Begin, Buy, Sell, Reduce, Close, Suspend, Reissue, Announce, OpenGold, OpenSilver}
@@ -26,9 +26,11 @@ use Rattle.messages.specs.declared.faults.MessageFault.the-variants.{Short}
 use Rattle.std.specs.Vec.{made, refused}
 use Rattle.messages.specs.Kinds.{kindNumber, isKind, figureOf, wordOf}
 use Rattle.messages.specs.Verbs.{verbNumber, named, verbs, verbOf, first, again}
-use Rattle.messages.specs.Calls.{Said, quote, begin, buy, sell, reduce, close, suspend, reissue, announce, opened, rowOf, participantFigure, paired}
+use Rattle.messages.specs.Calls.{Said, quote, begin, buy, sell, reduce, close, suspend, reissue, announce, opened}
+use Rattle.messages.specs.Rows.{rowOf, participantFigure, paired}
 use Rattle.messages.specs.Reading.{coming, leads, matched, fills, callOf, answered, readingAs, reading}
-use Rattle.messages.specs.Writing.{verbIn, flat, figures, stamp, stamped, counted, wordsOf, Fits, firstOver, writtenUnless, writing}
+use Rattle.messages.specs.Writing.{verbIn, figures, stamp, stamped, counted, wordsOf, Fits, firstOver, writtenUnless, writing}
+use Rattle.messages.specs.Rows.{flat}
 use Rattle.messages.proofs.Stamps.{fits-from-over, length-stamped, counted-prices, counted-rows}
 use Rattle.messages.proofs.Matches.{then-from-cond, test-from-cond, fills-from-matched}
 

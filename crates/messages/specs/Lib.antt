@@ -1,9 +1,11 @@
-pub mod Kinds
-pub mod Verbs
-pub mod Faults
 pub mod Answers
 pub mod Calls
+pub mod Faults
+pub mod Kinds
 pub mod Messages
+pub mod Prices
 pub mod Reading
-pub mod Writing
+pub mod Rows
 pub mod Trips
+pub mod Verbs
+pub mod Writing

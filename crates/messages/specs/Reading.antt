@@ -17,7 +17,8 @@ use Rattle.messages.specs.declared.verbs.Verb.{Verb}
 use Rattle.messages.specs.declared.verbs.Verb.the-variants as verb
 use Rattle.messages.specs.Kinds.{isKind, figureOf}
 use Rattle.messages.specs.Verbs.{verbOf, first, again}
-use Rattle.messages.specs.Calls.{Said, quote, begin, buy, sell, reduce, close, suspend, reissue, announce, opened, said, paired}
+use Rattle.messages.specs.Calls.{Said, quote, begin, buy, sell, reduce, close, suspend, reissue, announce, opened, said}
+use Rattle.messages.specs.Rows.{paired}
 
 -- what may come next, where `left` still has to and `more` may follow again
 abbrev pub coming : List Kind → List Kind → List Kind

@@ -10,7 +10,6 @@ use Rattle.std.specs.declared.result.Result.the-variants.{Ok, Err}
 use Rattle.std.specs.shelf.Lists.{All}
 use Rattle.messages.specs.declared.calls.Metal.{Metal}
 use Rattle.messages.specs.declared.calls.Metal.the-variants.{Gold, Silver}
-use Rattle.messages.specs.declared.calls.OpenRow.{OpenRow}
 use Rattle.messages.specs.declared.faults.MessageFault.{MessageFault}
 use Rattle.messages.specs.declared.faults.MessageFault.the-variants.{Misfit, Short}
 use Rattle.messages.specs.declared.kinds.Kind.{Kind}
@@ -21,7 +20,9 @@ use Rattle.messages.specs.declared.writing.Tail.{Tail}
 use Rattle.messages.specs.declared.writing.Tail.the-variants as tail
 use Rattle.messages.specs.Kinds.{wordOf}
 use Rattle.messages.specs.Verbs.{verbNumber, first, again}
-use Rattle.messages.specs.Calls.{Said, quote, begin, buy, sell, reduce, close, suspend, reissue, announce, opened, participantFigure, pricesOf, rowsOf}
+use Rattle.messages.specs.Calls.{Said, quote, begin, buy, sell, reduce, close, suspend, reissue, announce, opened}
+use Rattle.messages.specs.Prices.{pricesOf}
+use Rattle.messages.specs.Rows.{flat, rowsOf}
 use Rattle.messages.specs.Reading.{coming}
 
 -- the verb of a call
@@ -40,11 +41,6 @@ verbIn (suspend time) = verb.Suspend
 verbIn (reissue time price) = verb.Reissue
 verbIn (announce time price) = verb.Announce
 verbIn (opened metal time price rows) = opens metal
-
--- rows as figures, two each
-abbrev pub flat : List OpenRow → List ℕ
-flat [] = []
-flat (r ∷ rs) = participantFigure r ∷ r .millions ∷ flat rs
 
 -- the figures of a call behind its verb, in the order of its message
 abbrev pub fieldsOf : Said → List ℕ

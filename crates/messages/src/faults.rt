@@ -64,8 +64,8 @@ impl MessageFault {
         }
     }
 
-    /// Where the refusal is placed in a message of this verb; a call made without words has place 0.
-    /// The engine's places are all below 16,384: only a fault that never comes has one that does not fit, and it is cut to 64 bits.
+    /// Where the refusal stands in a message of this verb; 0 for a call made without words. A place is cut to 64 bits, which
+    /// those of the engine have: its messages end before place 16,384.
     pub fn place(self, verb: Option<Verb>) -> usize
         ensures { λ r. ⌜ r ≡ placedAt verb self % 2 ^ 64 ⌝ }
     {

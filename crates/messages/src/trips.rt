@@ -2,7 +2,7 @@
 
 ghost use mathlib.Core.Path.{_≡_};
 ghost use lib.ListN.{take};
-ghost use Rattle.std.specs.Vec.{made};
+ghost use Rattle.std.specs.Vec.{made, refused};
 ghost use Rattle.messages.specs.Trips.{ReadsBack, WritesBack, Rejoins};
 use crate::faults::MessageFault;
 use crate::reading::read;
@@ -13,6 +13,7 @@ use crate::writing::write;
 /// list, joined, are the list.
 pub fn rewrite(message: &[u32], out: &mut [u32]) -> Result<usize, MessageFault>
     ensures same { λ r. ⌜ made r (λ n. take n (now (out .exit)) ≡ now (message .entry)) ⌝ }
+    ensures kept { λ r. ⌜ refused r (λ _. now (out .exit) ≡ now (out .entry)) ⌝ }
     ensures reads { λ _. ⌜ ReadsBack ⌝ }
     ensures writes { λ _. ⌜ WritesBack ⌝ }
     ensures rejoins { λ _. ⌜ Rejoins ⌝ }

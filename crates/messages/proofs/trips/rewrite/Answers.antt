@@ -11,10 +11,11 @@ use Rattle.messages.proofs.trips.rewrite.Needs as need
 pub returns : need.returns
 returns c = record {
   same = subst (λ (m : List ℕ). made (c .write .result) (λ n. take n (c .write .last .out) ≡ m)) (c .in-Continue-call .ensures tt .back) (c .write .ensures .front);
+  kept = c .write .ensures .kept;
   reads = reads-back;
   writes = writes-back;
   rejoins = rejoins;
 }
 
 pub returns-in-Break-call : need.returns-in-Break-call
-returns-in-Break-call c = record { same = search needs; reads = reads-back; writes = writes-back; rejoins = rejoins }
+returns-in-Break-call c = record { same = search needs; kept = search needs; reads = reads-back; writes = writes-back; rejoins = rejoins }

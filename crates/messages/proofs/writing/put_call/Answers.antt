@@ -1,4 +1,5 @@
-use Rattle.messages.specs.Calls.{pricesOf, rowsOf}
+use Rattle.messages.specs.Prices.{pricesOf}
+use Rattle.messages.specs.Rows.{rowsOf}
 use Rattle.messages.proofs.Stamps.{counted-prices, counted-opened}
 use Rattle.messages.proofs.writing.put_call.Needs as need
 

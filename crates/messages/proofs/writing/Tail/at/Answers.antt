@@ -1,6 +1,6 @@
 use native.Mathlib.Omega.{arith}
 use mathlib.Core.Path.{sym, ap, _∙_}
-use Rattle.messages.specs.Calls.{rowsOf, participantFigure}
+use Rattle.messages.specs.Rows.{rowsOf, participantFigure}
 use Rattle.messages.proofs.Figures.{flat-first, flat-second}
 use Rattle.messages.proofs.writing.Tail.at.Needs as need
 

@@ -3,7 +3,7 @@ use native.Mathlib.Omega.{arith}
 use mathlib.Core.Path.{sym, _∙_}
 use Rattle.std.proofs.shelf.Lists.{getD-past, length-map}
 use Rattle.messages.proofs.Figures.{getD-figures}
-use Rattle.messages.proofs.calls.figure_at.Needs as need
+use Rattle.messages.proofs.prices.figure_at.Needs as need
 
 pub returns-then-place-words : need.returns-then-place-words
 returns-then-place-words c = search (needs, getD-figures)

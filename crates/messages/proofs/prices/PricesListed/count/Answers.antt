@@ -1,5 +1,5 @@
 use Rattle.std.proofs.shelf.Lists.{length-map}
-use Rattle.messages.proofs.calls.PricesListed.count.Needs as need
+use Rattle.messages.proofs.prices.PricesListed.count.Needs as need
 
 pub returns-in-Words : need.returns-in-Words
 returns-in-Words c = simp (c .in-Words .is, length-map)

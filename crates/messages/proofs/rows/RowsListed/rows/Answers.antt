@@ -1,5 +1,5 @@
 use Rattle.messages.proofs.Figures.{count-words, count-typed}
-use Rattle.messages.proofs.calls.RowsListed.rows.Needs as need
+use Rattle.messages.proofs.rows.RowsListed.rows.Needs as need
 
 pub returns-in-Words : need.returns-in-Words
 returns-in-Words c = count-words (c .args .self .now) (c .in-Words .words) (c .in-Words .is)

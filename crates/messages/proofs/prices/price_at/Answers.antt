@@ -3,7 +3,7 @@ use native.Mathlib.Omega.{arith}
 use mathlib.Core.Path.{sym, _∙_}
 use Rattle.std.proofs.shelf.Lists.{getD-past, length-map}
 use Rattle.messages.proofs.Figures.{getD-ticks}
-use Rattle.messages.proofs.calls.price_at.Needs as need
+use Rattle.messages.proofs.prices.price_at.Needs as need
 
 pub returns-then-place-prices : need.returns-then-place-prices
 returns-then-place-prices c = search (needs, getD-ticks)

@@ -5,10 +5,10 @@ use mathlib.Core.Path.{_≡_, sym, _∙_}
 use mathlib.Core.List.{List, map}
 use lib.ListN.{length, getD}
 use Rattle.std.proofs.shelf.Lists.{getD-past, length-map}
-use Rattle.messages.specs.Calls.{rowOf, blankRow, paired}
+use Rattle.messages.specs.Rows.{rowOf, blankRow, paired}
 use Rattle.messages.specs.Kinds.{figureOf}
 use Rattle.messages.proofs.Figures.{length-paired, getD-paired, getD-figures}
-use Rattle.messages.proofs.calls.pair_at.Needs as need
+use Rattle.messages.proofs.rows.pair_at.Needs as need
 
 pub returns-then-row-words : need.returns-then-row-words
 returns-then-row-words c =
