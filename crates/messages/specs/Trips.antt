@@ -1,12 +1,22 @@
 use mathlib.Core.Path.{_≡_}
 use mathlib.Core.List.{List}
 use Prim.Native.Nat.{ℕ}
-use Rattle.std.specs.declared.result.Result.the-variants.{Ok}
+use Rattle.std.specs.declared.result.Result.{Result}
+use Rattle.std.specs.declared.result.Result.the-variants.{Ok, Err}
+use Rattle.messages.specs.declared.faults.MessageFault.{MessageFault}
 use Rattle.std.specs.shelf.Lists.{joined}
 use Rattle.messages.specs.Calls.{Said}
 use Rattle.messages.specs.Messages.{messages}
 use Rattle.messages.specs.Reading.{reading}
-use Rattle.messages.specs.Writing.{wordsOf, Fits}
+use Rattle.messages.specs.Writing.{wordsOf, writing, Fits}
+
+abbrev pub writingRead : Result Said MessageFault → List ℕ → Result ℕ MessageFault × List ℕ
+writingRead (Err f) out = (Err f, out)
+writingRead (Ok c) out = writing c out
+
+-- a message read and then written at the front of a list of words: the answer, and the list afterwards
+abbrev pub rewriting : List ℕ → List ℕ → Result ℕ MessageFault × List ℕ
+rewriting m out = writingRead (reading m) out
 
 -- a call written as a message reads back as that call
 abbrev pub ReadsBack : Type 0

@@ -35,8 +35,8 @@ pub enum Layer {
 pub impl From<SessionFault> for MessageFault as MessageFaultFromSession {
     ghost converts = { λ f r. r ≡ Session f };
 
-    fn from(fault: SessionFault) -> MessageFault {
-        MessageFault::Session(fault)
+    fn from(refusal: SessionFault) -> MessageFault {
+        MessageFault::Session(refusal)
     }
 }
 

@@ -54,7 +54,7 @@ pub fn is_kind(word: u32, kind: Kind) -> bool
 pub fn figure(word: u32) -> u32
     ensures { λ r. ⌜ r ≡ figureOf word ⌝ }
 {
-    word & 0x0fff_ffff
+    word % 0x1000_0000
 }
 
 /// The word of a kind that holds the low 28 bits of a figure.
