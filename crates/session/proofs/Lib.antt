@@ -5,3 +5,4 @@ pub mod Priced
 pub mod Refusals
 pub mod Releases
 pub mod Owed
+pub mod Seated

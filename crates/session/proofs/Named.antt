@@ -1,9 +1,9 @@
 use Prim.Native.Nat.{ℕ, zero, suc, _≤_, _<_}
 use mathlib.Core.Bool.{Bool, true, false, _&&_}
 use mathlib.Core.List.{List, [], _∷_}
-use mathlib.Core.Path.{_≡_, refl}
+use mathlib.Core.Path.{_≡_, refl, ap, _∙_}
 use lib.Dec.{leb}
-use lib.ListN.{length, set}
+use lib.ListN.{length, set, replicate}
 use native.Mathlib.Omega.{arith}
 use Rattle.std.proofs.shelf.Tests.{and-parts, and-from}
 use Rattle.std.proofs.shelf.Ways.{tells}
@@ -23,3 +23,11 @@ small n h = grind (arith, tells)
 -- quotes stay within the highest price when one of them is replaced
 pub quotes-named : (qs : List (Option Ticks)) (i : ℕ) (p : Ticks) → lawfulQuotes qs ≡ true → p .0 ≤ 10000000 → lawfulQuotes (set qs i (Some p)) ≡ true
 quotes-named qs i p h k = quotes-set qs i (Some p) h (small (p .0) k)
+
+none-named : (n : ℕ) → lawfulQuotes (replicate n None) ≡ true
+none-named zero = refl
+none-named (suc n) = none-named n
+
+-- where nobody has quoted, every quote keeps to the rules
+pub quotes-none : (qs : List (Option Ticks)) (n : ℕ) → qs ≡ replicate n None → lawfulQuotes qs ≡ true
+quotes-none qs n e = ap lawfulQuotes e ∙ none-named n

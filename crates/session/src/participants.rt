@@ -1,5 +1,8 @@
 //! Who takes part.
 
+ghost use mathlib.Core.Path.{_≡_};
+ghost use Rattle.session.specs.Participants.{isFixing, isSeat};
+
 /// The most rows of a participant table.
 pub(crate) const MOST_ROWS: usize = 256;
 
@@ -14,6 +17,28 @@ pub enum Kind {
     OtherMember = 3,
     /// Tenders through a member, its carrier.
     Customer = 4,
+}
+
+impl Kind {
+    /// Whether it is a Fixing Member.
+    pub fn is_fixing(self) -> bool
+        ensures { λ r. ⌜ r ≡ isFixing self ⌝ }
+    {
+        match self {
+            Kind::FixingMember => true,
+            _ => false,
+        }
+    }
+
+    /// Whether it is a quoting seat.
+    pub fn is_seat(self) -> bool
+        ensures { λ r. ⌜ r ≡ isSeat self ⌝ }
+    {
+        match self {
+            Kind::FixingMember | Kind::ReferencePriceMember => true,
+            _ => false,
+        }
+    }
 }
 
 /// A row of the participant table. A member's carrier is its own row.

@@ -1,0 +1,6 @@
+use borrow.Author.Needs.{needs}
+use Rattle.std.proofs.shelf.Lists.{getD-past}
+use Rattle.messages.proofs.reading.verb_of.Needs as need
+
+pub returns-in-rest : need.returns-in-rest
+returns-in-rest c = simp (getD-past (c .args .message .now) 0 0 (search needs))

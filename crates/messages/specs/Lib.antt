@@ -1,0 +1,11 @@
+pub mod Answers
+pub mod Calls
+pub mod Faults
+pub mod Kinds
+pub mod Messages
+pub mod Prices
+pub mod Reading
+pub mod Rows
+pub mod Trips
+pub mod Verbs
+pub mod Writing
