@@ -16,6 +16,7 @@ pub mod open;
 pub mod orders;
 pub mod participants;
 pub mod periods;
+pub mod questions;
 mod quote;
 mod reduce;
 pub mod session;

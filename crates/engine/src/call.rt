@@ -1,0 +1,156 @@
+//! Answering a call.
+
+ghost use mathlib.Core.Path.{_≡_};
+ghost use Rattle.engine.specs.declared.engine.Held.the-variants.{Nothing};
+use crate::engine::Engine;
+use crate::engine::Held;
+use books::book::MarginBook;
+use contracts::fixing::FixingContract;
+use measures::Ticks;
+use messages::answers::Answer;
+use messages::calls::Call;
+use messages::faults::MessageFault;
+use messages::faults::MessageFaultFromSession;
+use session::answers::Standing;
+use session::faults::SessionFault;
+use session::lines::Side;
+use session::lists::Roster;
+use session::open::RefusedOpening;
+use session::orders::RefusedMeasure;
+use session::orders::SuspensionOrder;
+use session::session::Session;
+use sharing::policy::SharingPolicy;
+use std::alloc::Global;
+use messages::prices::PricesListed;
+
+/// The last millisecond of a day.
+const LAST_TIME: u32 = 86_399_999;
+
+/// Why a call is refused that this stage never takes.
+pub(crate) fn misplaced(time: u32) -> SessionFault {
+    if time > LAST_TIME {
+        SessionFault::Time
+    } else {
+        SessionFault::WrongStage
+    }
+}
+
+/// What a refused opening hands back.
+#[derive(Drop)]
+pub struct Returned<P, B> {
+    pub fault: SessionFault,
+    pub policy: P,
+    pub book: B,
+}
+
+impl<C, P, B> Engine<C, P, B> {
+    /// Opens a session over a book, which the opening does not change.
+    pub fn open<R: Roster>(heap: Global, time: u32, previous: Ticks, roster: &R, limit: usize, policy: P, book: B) -> Result<Engine<C, P, B>, Returned<P, B>> {
+        match Session::open(heap, time, previous, roster, limit, policy) {
+            Ok(session) => Ok(Engine {
+                session,
+                book,
+                held: Held::Nothing,
+            }),
+            Err(RefusedOpening { fault, policy }) => Err(Returned { fault, policy, book }),
+        }
+    }
+
+    /// Where the session stands.
+    pub fn standing(&self) -> Standing {
+        self.session.standing()
+    }
+
+    /// Takes an order into the empty hand.
+    fn keep(&mut self, order: SuspensionOrder)
+        requires { ⌜ now self .held ≡ Nothing ⌝ }
+    {
+        match std::mem::replace(&mut self.held, Held::Order(order)) {
+            Held::Nothing => {}
+            Held::Order(_) => unreachable(),
+        }
+    }
+
+    /// Suspends the session, unless it is suspended: then its order is in hand.
+    fn suspend(&mut self, time: u32) -> Result<Standing, SessionFault> {
+        if let Held::Order(_) = &self.held {
+            return Err(misplaced(time));
+        }
+        let (standing, order) = self.session.suspend(time)?;
+        self.keep(order);
+        Ok(standing)
+    }
+}
+
+impl<C: FixingContract, P: SharingPolicy, B: MarginBook> Engine<C, P, B> {
+    fn reissue(&mut self, time: u32, price: Ticks) -> Result<Standing, SessionFault> {
+        match std::mem::replace(&mut self.held, Held::Nothing) {
+            Held::Nothing => Err(misplaced(time)),
+            Held::Order(order) => match order.reissue(&mut self.session, &mut self.book, time, price) {
+                Ok(standing) => Ok(standing),
+                Err(RefusedMeasure { fault, order }) => {
+                    self.keep(order);
+                    Err(fault)
+                }
+            },
+        }
+    }
+
+    fn announce(&mut self, time: u32, price: Ticks) -> Result<Standing, SessionFault> {
+        match std::mem::replace(&mut self.held, Held::Nothing) {
+            Held::Nothing => Err(misplaced(time)),
+            Held::Order(order) => match order.announce(&mut self.session, &mut self.book, time, price) {
+                Ok(standing) => Ok(standing),
+                Err(RefusedMeasure { fault, order }) => {
+                    self.keep(order);
+                    Err(fault)
+                }
+            },
+        }
+    }
+
+    /// Answers a call. A refusal changes nothing.
+    pub fn answer(&mut self, call: &Call) -> Result<Answer, MessageFault> {
+        Ok(match *call {
+            Call::Quote { time, row, price } => Answer::Standing(self.session.quote(time, row, price)?),
+            Call::Begin { time, prices } => Answer::Standing(self.session.begin(time, &prices)?),
+            Call::Buy { time, row, lots } => Answer::Tendered(self.session.tender(&mut self.book, time, row, Side::Buy, lots)?),
+            Call::Sell { time, row, lots } => Answer::Tendered(self.session.tender(&mut self.book, time, row, Side::Sell, lots)?),
+            Call::Reduce { time, row, line, lots } => Answer::Standing(self.session.reduce(&mut self.book, time, row, line, lots)?),
+            Call::Close { time } => Answer::Standing(self.session.close(&mut self.book, time)?),
+            Call::Suspend { time } => Answer::Standing(self.suspend(time)?),
+            Call::Reissue { time, price } => Answer::Standing(self.reissue(time, price)?),
+            Call::Announce { time, price } => Answer::Standing(self.announce(time, price)?),
+            Call::Open { time, .. } => return Err(MessageFault::Session(misplaced(time))),
+        })
+    }
+
+    /// Announces the Offered Price at the last accepted time, if the session is suspended.
+    pub fn announce_if_suspended(&mut self) -> Option<Result<Standing, SessionFault>> {
+        match std::mem::replace(&mut self.held, Held::Nothing) {
+            Held::Nothing => None,
+            Held::Order(order) => {
+                let time = self.session.clock();
+                let price = self.session.standing().price;
+                match order.announce(&mut self.session, &mut self.book, time, price) {
+                    Ok(standing) => Some(Ok(standing)),
+                    Err(RefusedMeasure { fault, order }) => {
+                        self.keep(order);
+                        Some(Err(fault))
+                    }
+                }
+            }
+        }
+    }
+}
+
+impl<C: Drop, P: Drop, B: Drop> Engine<C, P, B> {
+    /// Ends the engine, its order spent.
+    pub fn retire(self) {
+        let Engine { session, book: _, held } = self;
+        match held {
+            Held::Nothing => {}
+            Held::Order(order) => order.end(session),
+        }
+    }
+}
