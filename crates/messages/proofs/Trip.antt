@@ -3,7 +3,7 @@ use Prim.Native.Nat.{ℕ, zero, suc, _+_, _*_, _/_, _%_, _^_, _<_, _≤_}
 use native.Mathlib.Omega.{arith}
 use mathlib.Core.Path.{_≡_, refl, sym, ap, subst, _∙_}
 use mathlib.Core.Logic.{_⊎_, inl, inr, ⊎-elim}
-use mathlib.Core.Bool.{Bool, true, false, cond, _&&_}
+use mathlib.Core.Bool.{Bool, true, false, cond}
 use mathlib.Core.List.{List, [], _∷_, _++_, map}
 use lib.Dec.{eqb, ltb}
 use lib.ListN.{length, getD, drop, take}
@@ -28,8 +28,8 @@ use Rattle.messages.specs.Kinds.{kindNumber, isKind, figureOf, wordOf}
 use Rattle.messages.specs.Verbs.{verbNumber, named, verbs, verbOf, first, again}
 use Rattle.messages.specs.Calls.{Said, quote, begin, buy, sell, reduce, close, suspend, reissue, announce, opened}
 use Rattle.messages.specs.Rows.{rowOf, participantFigure, paired}
-use Rattle.messages.specs.Reading.{coming, leads, matched, fills, callOf, answered, readingAs, reading}
-use Rattle.messages.specs.Writing.{verbIn, figures, stamp, stamped, counted, wordsOf, Fits, firstOver, writtenUnless, writing}
+use Rattle.messages.specs.Reading.{matched, fills, callOf, answered, readingAs, verbNamed, reading}
+use Rattle.messages.specs.Writing.{verbIn, figures, stamped, counted, wordsOf, Fits, firstOver, writtenUnless, writing}
 use Rattle.messages.specs.Rows.{flat}
 use Rattle.messages.proofs.Stamps.{fits-from-over, length-stamped, counted-prices, counted-rows}
 use Rattle.messages.proofs.Matches.{then-from-cond, test-from-cond, fills-from-matched}
@@ -135,6 +135,7 @@ call-back (opened Gold time price rows) h = cc (figure-word kind.Time time (h .1
 call-back (opened Silver time price rows) h = cc (figure-word kind.Time time (h .1 .0), figure-word kind.Price price (h .1 .1 .0), rows-back rows (h .1 .1 .1))
 
 pub reads-back : (c : Said) → Fits c → reading (wordsOf c) ≡ Ok c
+unfolding reading verbNamed
 reads-back c h =
     ap (λ v. readingAs v (wordsOf c)) (verb-word (verbIn c))
     ∙ ap (λ r. answered r (callOf (verbIn c) (wordsOf c))) (matched-stamped (again (verbIn c)) (first (verbIn c)) 0 (figures c) (counted-call c) h)
@@ -235,6 +236,7 @@ from-verb (Some v) m c n e =
     ap wordsOf (sym (p .1)) ∙ words-back v m (verb-from-named (getD m 0 0) verbs v n) (p .0)
 
 pub writes-back : (m : List ℕ) (c : Said) → reading m ≡ Ok c → wordsOf c ≡ m
+unfolding reading verbNamed
 writes-back m c e = from-verb (verbOf (getD m 0 0)) m c refl e
 
 -- ---- a call that is written at the front of a list

@@ -1,5 +1,5 @@
 use Prim.Native.Nat.{ℕ, _+_}
-use mathlib.Core.Bool.{Bool, true, false, cond}
+use mathlib.Core.Bool.{Bool, false, cond}
 use mathlib.Core.List.{List, [], _∷_, map}
 use lib.Dec.{eqb, leb}
 use lib.ListN.{length, getD, drop}
@@ -74,9 +74,13 @@ abbrev pub readingAs : Option Verb → List ℕ → Result Said MessageFault
 readingAs None m = Err (Misfit 0)
 readingAs (Some v) m = answered (matched (again v) (first v) 0 m) (callOf v m)
 
+-- the verb of a message is the one that its first word names
+unfoldable pub verbNamed : List ℕ → Option Verb
+verbNamed m = verbOf (getD m 0 0)
+
 -- what a message says; one that names no verb is refused at its first word
-abbrev pub reading : List ℕ → Result Said MessageFault
-reading m = readingAs (verbOf (getD m 0 0)) m
+unfoldable pub reading : List ℕ → Result Said MessageFault
+reading m = readingAs (verbNamed m) m
 
 abbrev pub told : Result Call MessageFault → Result Said MessageFault
 told (Ok c) = Ok (said c)

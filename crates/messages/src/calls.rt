@@ -6,7 +6,7 @@ use measures::Lots;
 use measures::Ticks;
 
 /// Which contract a session trades.
-#[derive(Clone, Copy, PartialEq, Eq, Debug)]
+#[derive(Clone, Copy)]
 pub enum Metal {
     Gold,
     Silver,

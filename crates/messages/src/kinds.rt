@@ -4,7 +4,7 @@ ghost use mathlib.Core.Path.{_≡_};
 ghost use Rattle.messages.specs.Kinds.{kindNumber, isKind, figureOf, wordOf};
 
 /// What a word is about: its top four bits.
-#[derive(Clone, Copy, PartialEq, Eq, Debug)]
+#[derive(Clone, Copy)]
 pub enum Kind {
     /// Milliseconds since midnight.
     Time = 1,

@@ -2,12 +2,12 @@
 
 ghost use mathlib.Core.Path.{_≡_};
 ghost use mathlib.Core.Bool.{true};
-ghost use lib.ListN.{length, getD};
+ghost use lib.ListN.{length};
 ghost use Rattle.std.specs.Vec.{made};
 ghost use Rattle.messages.specs.Writing.{wordsOf};
-ghost use Rattle.messages.specs.Verbs.{verbOf, first, again};
+ghost use Rattle.messages.specs.Verbs.{first, again};
 ghost use Rattle.messages.specs.Calls.{said};
-ghost use Rattle.messages.specs.Reading.{matched, fills, coming, reading, told, callOf};
+ghost use Rattle.messages.specs.Reading.{matched, fills, coming, verbNamed, reading, told, callOf};
 use crate::calls::Call;
 use crate::calls::Metal;
 use crate::faults::MessageFault;
@@ -54,7 +54,7 @@ fn check(message: &[u32], kinds: &[Kind], more: &[Kind]) -> Result<(), MessageFa
 
 /// The verb of a message, which its first word names.
 pub fn verb_of(message: &[u32]) -> Option<Verb>
-    ensures { λ r. ⌜ r ≡ verbOf (getD (now (message .entry)) 0 0) ⌝ }
+    ensures { λ r. ⌜ r ≡ verbNamed (now (message .entry)) ⌝ }
 {
     let [word, ..] = message else {
         return None;

@@ -10,7 +10,7 @@ use session::lists::Roster;
 use session::participants::Listed;
 
 /// A row of an `Open`: a participant and its free millions of fen.
-#[derive(Clone, Copy, PartialEq, Eq, Debug)]
+#[derive(Clone, Copy)]
 pub struct OpenRow {
     pub kind: u32,
     pub carrier: u32,

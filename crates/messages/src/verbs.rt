@@ -6,7 +6,7 @@ ghost use Rattle.messages.specs.Verbs.{verbNumber, verbOf, first, again, found
 use crate::kinds::Kind;
 
 /// What a message asks for.
-#[derive(Clone, Copy, PartialEq, Eq, Debug)]
+#[derive(Clone, Copy)]
 pub enum Verb {
     /// A quoting seat names a reference price.
     Quote = 1,

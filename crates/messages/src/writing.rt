@@ -153,6 +153,7 @@ fn put_fields(verb: Verb, fields: &[u32], out: &mut [u32]) -> Result<usize, Mess
     requires { ⌜ counted (again verb) (first verb) (verbNumber verb ∷ now fields) ≡ true ⌝ }
     ensures { λ r. ⌜ (r, now (out .exit)) ≡ writingFigures verb (verbNumber verb ∷ now (fields .entry)) (now (out .entry)) ⌝ }
 {
+    // Nothing follows: a tail of no prices, since an empty case of the tail would lend nothing and is not covered.
     let tail = Tail::Prices(Prices::Words(&[]));
     put(Draft { verb, fields, tail }, out)
 }

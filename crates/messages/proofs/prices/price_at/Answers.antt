@@ -1,6 +1,6 @@
 use borrow.Author.Needs.{needs}
 use native.Mathlib.Omega.{arith}
-use mathlib.Core.Path.{sym, _∙_}
+use mathlib.Core.Path.{sym}
 use Rattle.std.proofs.shelf.Lists.{getD-past, length-map}
 use Rattle.messages.proofs.Figures.{getD-ticks}
 use Rattle.messages.proofs.prices.price_at.Needs as need

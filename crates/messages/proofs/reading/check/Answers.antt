@@ -1,7 +1,5 @@
 use borrow.Author.Needs.{needs}
 use native.Mathlib.Omega.{arith}
-use Prim.Native.Nat.{_≤_}
-use lib.ListN.{length}
 use mathlib.Core.Path.{sym, _∙_}
 use Rattle.messages.proofs.Matches.{refused-here, passed-here, at-the-end, leads-none, leads-some, ends-some, ends-none}
 use Rattle.messages.proofs.reading.check.Needs as need

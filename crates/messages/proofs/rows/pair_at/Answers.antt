@@ -1,11 +1,9 @@
-use borrow.Author.Needs.{needs}
-use native.Mathlib.Omega.{arith}
 use Prim.Native.Nat.{_<_}
-use mathlib.Core.Path.{_≡_, sym, _∙_}
-use mathlib.Core.List.{List, map}
-use lib.ListN.{length, getD}
+use mathlib.Core.Path.{sym, _∙_}
+use mathlib.Core.List.{map}
+use lib.ListN.{length}
 use Rattle.std.proofs.shelf.Lists.{getD-past, length-map}
-use Rattle.messages.specs.Rows.{rowOf, blankRow, paired}
+use Rattle.messages.specs.Rows.{blankRow, paired}
 use Rattle.messages.specs.Kinds.{figureOf}
 use Rattle.messages.proofs.Figures.{length-paired, getD-paired, getD-figures}
 use Rattle.messages.proofs.rows.pair_at.Needs as need

@@ -1,4 +1,3 @@
-use borrow.Author.Needs.{needs}
 use mathlib.Core.Path.{sym, _∙_}
 use Rattle.messages.proofs.Places.{found-here, found-later, found-nowhere}
 use Rattle.messages.proofs.verbs.find.Needs as need

@@ -5,7 +5,7 @@ use mathlib.Core.List.{List, _++_}
 use lib.ListN.{drop}
 use Rattle.messages.specs.declared.kinds.Kind.{Kind}
 use Rattle.messages.specs.Kinds.{wordOf}
-use Rattle.messages.specs.Verbs.{first, again}
+use Rattle.messages.specs.Verbs.{again}
 use Rattle.messages.specs.Writing.{draftFigures, stamped}
 use Rattle.messages.proofs.Stamps.{comes, fill-more, fill-all}
 use Rattle.messages.proofs.writing.fill.Needs as need

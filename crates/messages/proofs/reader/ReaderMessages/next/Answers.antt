@@ -15,4 +15,4 @@ pub returns : need.returns
 returns c =
     let m = messages-cut (c .args .self .now .words .now) (c .args .self .now .place) (c .end-of-end .result) (omega arith) (c .end-of-end .ensures .end) in
     let fewer = ap length m in
-    record { steps = m; goes = search needs }
+    record { steps = search needs; goes = search needs }

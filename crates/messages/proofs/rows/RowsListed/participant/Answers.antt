@@ -5,4 +5,4 @@ use Rattle.messages.proofs.Figures.{getD-listed}
 use Rattle.messages.proofs.rows.RowsListed.participant.Needs as need
 
 pub returns : need.returns
-returns c = ap listedOf (c .at-found .ensures) ∙ getD-listed (rowsOf (c .args .self .now)) (c .args .row)
+returns c = let e = ap listedOf (c .at-found .ensures) ∙ getD-listed (rowsOf (c .args .self .now)) (c .args .row) in search needs

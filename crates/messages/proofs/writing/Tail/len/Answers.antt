@@ -1,7 +1,5 @@
 use borrow.Author.Needs.{needs}
-use native.Mathlib.Omega.{arith}
 use Rattle.std.proofs.shelf.Lists.{length-map}
-use Rattle.messages.specs.Rows.{rowsOf, listedOf}
 use Rattle.messages.proofs.Figures.{length-flat}
 use Rattle.messages.proofs.writing.Tail.len.Needs as need
 
