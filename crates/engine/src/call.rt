@@ -11,6 +11,7 @@ use messages::answers::Answer;
 use messages::calls::Call;
 use messages::faults::MessageFault;
 use messages::faults::MessageFaultFromSession;
+use messages::prices::PricesListed;
 use session::answers::Standing;
 use session::faults::SessionFault;
 use session::lines::Side;
@@ -21,7 +22,6 @@ use session::orders::SuspensionOrder;
 use session::session::Session;
 use sharing::policy::SharingPolicy;
 use std::alloc::Global;
-use messages::prices::PricesListed;
 
 /// The last millisecond of a day.
 const LAST_TIME: u32 = 86_399_999;
@@ -45,14 +45,26 @@ pub struct Returned<P, B> {
 
 impl<C, P, B> Engine<C, P, B> {
     /// Opens a session over a book, which the opening does not change.
-    pub fn open<R: Roster>(heap: Global, time: u32, previous: Ticks, roster: &R, limit: usize, policy: P, book: B) -> Result<Engine<C, P, B>, Returned<P, B>> {
+    pub fn open<R: Roster>(
+        heap: Global,
+        time: u32,
+        previous: Ticks,
+        roster: &R,
+        limit: usize,
+        policy: P,
+        book: B,
+    ) -> Result<Engine<C, P, B>, Returned<P, B>> {
         match Session::open(heap, time, previous, roster, limit, policy) {
             Ok(session) => Ok(Engine {
                 session,
                 book,
                 held: Held::Nothing,
             }),
-            Err(RefusedOpening { fault, policy }) => Err(Returned { fault, policy, book }),
+            Err(RefusedOpening { fault, policy }) => Err(Returned {
+                fault,
+                policy,
+                book,
+            }),
         }
     }
 
@@ -86,7 +98,12 @@ impl<C: FixingContract, P: SharingPolicy, B: MarginBook> Engine<C, P, B> {
     fn reissue(&mut self, time: u32, price: Ticks) -> Result<Standing, SessionFault> {
         match std::mem::replace(&mut self.held, Held::Nothing) {
             Held::Nothing => Err(misplaced(time)),
-            Held::Order(order) => match order.reissue(&mut self.session, &mut self.book, time, price) {
+            Held::Order(order) => match order.reissue(
+                &mut self.session,
+                &mut self.book,
+                time,
+                price,
+            ) {
                 Ok(standing) => Ok(standing),
                 Err(RefusedMeasure { fault, order }) => {
                     self.keep(order);
@@ -99,7 +116,12 @@ impl<C: FixingContract, P: SharingPolicy, B: MarginBook> Engine<C, P, B> {
     fn announce(&mut self, time: u32, price: Ticks) -> Result<Standing, SessionFault> {
         match std::mem::replace(&mut self.held, Held::Nothing) {
             Held::Nothing => Err(misplaced(time)),
-            Held::Order(order) => match order.announce(&mut self.session, &mut self.book, time, price) {
+            Held::Order(order) => match order.announce(
+                &mut self.session,
+                &mut self.book,
+                time,
+                price,
+            ) {
                 Ok(standing) => Ok(standing),
                 Err(RefusedMeasure { fault, order }) => {
                     self.keep(order);
@@ -111,18 +133,35 @@ impl<C: FixingContract, P: SharingPolicy, B: MarginBook> Engine<C, P, B> {
 
     /// Answers a call. A refusal changes nothing.
     pub fn answer(&mut self, call: &Call) -> Result<Answer, MessageFault> {
-        Ok(match *call {
-            Call::Quote { time, row, price } => Answer::Standing(self.session.quote(time, row, price)?),
-            Call::Begin { time, prices } => Answer::Standing(self.session.begin(time, &prices)?),
-            Call::Buy { time, row, lots } => Answer::Tendered(self.session.tender(&mut self.book, time, row, Side::Buy, lots)?),
-            Call::Sell { time, row, lots } => Answer::Tendered(self.session.tender(&mut self.book, time, row, Side::Sell, lots)?),
-            Call::Reduce { time, row, line, lots } => Answer::Standing(self.session.reduce(&mut self.book, time, row, line, lots)?),
-            Call::Close { time } => Answer::Standing(self.session.close(&mut self.book, time)?),
-            Call::Suspend { time } => Answer::Standing(self.suspend(time)?),
-            Call::Reissue { time, price } => Answer::Standing(self.reissue(time, price)?),
-            Call::Announce { time, price } => Answer::Standing(self.announce(time, price)?),
-            Call::Open { time, .. } => return Err(MessageFault::Session(misplaced(time))),
-        })
+        Ok(
+            match *call {
+                Call::Quote { time, row, price } => Answer::Standing(
+                    self.session.quote(time, row, price)?,
+                ),
+                Call::Begin { time, prices } => Answer::Standing(
+                    self.session.begin(time, &prices)?,
+                ),
+                Call::Buy { time, row, lots } => Answer::Tendered(
+                    self.session
+                        .tender(&mut self.book, time, row, Side::Buy, lots)?,
+                ),
+                Call::Sell { time, row, lots } => Answer::Tendered(
+                    self.session
+                        .tender(&mut self.book, time, row, Side::Sell, lots)?,
+                ),
+                Call::Reduce {
+                    time,
+                    row,
+                    line,
+                    lots,
+                } => Answer::Standing(self.session.reduce(&mut self.book, time, row, line, lots)?),
+                Call::Close { time } => Answer::Standing(self.session.close(&mut self.book, time)?),
+                Call::Suspend { time } => Answer::Standing(self.suspend(time)?),
+                Call::Reissue { time, price } => Answer::Standing(self.reissue(time, price)?),
+                Call::Announce { time, price } => Answer::Standing(self.announce(time, price)?),
+                Call::Open { time, .. } => return Err(MessageFault::Session(misplaced(time))),
+            },
+        )
     }
 
     /// Announces the Offered Price at the last accepted time, if the session is suspended.
@@ -147,7 +186,11 @@ impl<C: FixingContract, P: SharingPolicy, B: MarginBook> Engine<C, P, B> {
 impl<C: Drop, P: Drop, B: Drop> Engine<C, P, B> {
     /// Ends the engine, its order spent.
     pub fn retire(self) {
-        let Engine { session, book: _, held } = self;
+        let Engine {
+            session,
+            book: _,
+            held,
+        } = self;
         match held {
             Held::Nothing => {}
             Held::Order(order) => order.end(session),

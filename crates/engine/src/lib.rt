@@ -5,3 +5,5 @@ pub mod engine;
 pub mod list;
 pub mod message;
 pub mod sheet;
+pub mod transcript;
+pub mod words;

@@ -3,6 +3,7 @@
 use crate::call::Returned;
 use crate::call::misplaced;
 use crate::engine::Engine;
+use crate::transcript::Transcript;
 use books::balance::Balance;
 use books::book::MarginBook;
 use books::cash::CashBook;
@@ -33,25 +34,17 @@ use session::faults::SessionFault;
 use session::lists::PriceList;
 use session::lists::Roster;
 use session::stages::Stage;
+use session::stages::StagePartialEq;
 use sharing::table_order::TableOrder;
 use sharing::table_order::TableOrderPolicy;
 use std::alloc::AllocError;
 use std::alloc::Global;
-use messages::verbs::VerbPartialEq;
-use session::stages::StagePartialEq;
 
 /// How many lines a session has that is opened by a message.
 pub const LINES: usize = 1_024;
 
 /// The most executed prices of a beginning.
 const MOST_PRICES: usize = 10_000;
-
-/// What a list of words is answered: two words a message, and the words of the sheet if the session was fixed.
-#[derive(Drop)]
-pub struct Transcript {
-    pub answers: Vec<[u32; 2]>,
-    pub sheet: Vec<u32>,
-}
 
 /// Why a call is refused while no session is open.
 fn refused_unopened(call: &Call) -> SessionFault {
@@ -99,16 +92,26 @@ enum Before<'a> {
 }
 
 /// Answers the messages before the first opening that reads.
-fn await_opening<'a>(reader: &mut Reader<'a>, answers: &mut Vec<[u32; 2]>) -> Result<Before<'a>, AllocError> {
+fn await_opening<'a>(
+    reader: &mut Reader<'a>,
+    answers: &mut Vec<[u32; 2]>,
+) -> Result<Before<'a>, AllocError> {
     while let Some(message) = reader.next() {
         let verb = verb_of(message);
         let fault = match read(message) {
-            Ok(Call::Open { time, metal, price, rows }) => return Ok(Before::Asked(metal, Opening { time, price, rows })),
+            Ok(
+                Call::Open {
+                    time,
+                    metal,
+                    price,
+                    rows,
+                },
+            ) => return Ok(Before::Asked(metal, Opening { time, price, rows })),
             Ok(call) => MessageFault::Session(refused_unopened(&call)),
             Err(fault) => fault,
         };
         answers.push(answer_words(Err(fault), verb))?;
-        if verb == Some(Verb::OpenGold) || verb == Some(Verb::OpenSilver) {
+        if let Some(Verb::OpenGold | Verb::OpenSilver) = verb {
             return Ok(Before::Ended);
         }
     }
@@ -116,21 +119,46 @@ fn await_opening<'a>(reader: &mut Reader<'a>, answers: &mut Vec<[u32; 2]>) -> Re
 }
 
 /// Opens a session of a contract, and answers all that follows.
-fn run<C: FixingContract + Drop>(heap: Global, opening: Opening, verb: Verb, reader: Reader, mut answers: Vec<[u32; 2]>) -> Result<Transcript, AllocError> {
+fn run<C: FixingContract + Drop>(
+    heap: Global,
+    opening: Opening,
+    verb: Verb,
+    reader: Reader,
+    mut answers: Vec<[u32; 2]>,
+) -> Result<Transcript, AllocError> {
     let book = funded(heap, &opening.rows)?;
-    let opened = Engine::<C, TableOrder, CashBook>::open(heap, opening.time, opening.price, &opening.rows, LINES, TableOrder, book);
+    let opened = Engine::<C, TableOrder, CashBook>::open(
+        heap,
+        opening.time,
+        opening.price,
+        &opening.rows,
+        LINES,
+        TableOrder,
+        book,
+    );
     match opened {
         Ok(engine) => run_on(heap, engine, verb, reader, answers),
         Err(Returned { fault, .. }) => {
             answers.push(answer_words(Err(MessageFault::Session(fault)), Some(verb)))?;
-            Ok(Transcript { answers, sheet: Vec::new(heap) })
+            Ok(Transcript {
+                answers,
+                sheet: Vec::new(heap),
+            })
         }
     }
 }
 
 /// Answers all that follows an opening, announces if the session is left suspended, and takes the sheet if it is fixed.
-fn run_on<C: FixingContract + Drop>(heap: Global, mut engine: Engine<C, TableOrder, CashBook>, verb: Verb, reader: Reader, mut answers: Vec<[u32; 2]>) -> Result<Transcript, AllocError> {
-    let mut noted = answers.push(answer_words(Ok(Answer::Standing(engine.standing())), Some(verb))).is_ok();
+fn run_on<C: FixingContract + Drop>(
+    heap: Global,
+    mut engine: Engine<C, TableOrder, CashBook>,
+    verb: Verb,
+    reader: Reader,
+    mut answers: Vec<[u32; 2]>,
+) -> Result<Transcript, AllocError> {
+    let mut noted = answers
+        .push(answer_words(Ok(Answer::Standing(engine.standing())), Some(verb)))
+        .is_ok();
     for message in reader {
         let answer = engine.hear(message);
         let room = answers.push(answer_words(answer, verb_of(message))).is_ok();
@@ -149,7 +177,10 @@ fn run_on<C: FixingContract + Drop>(heap: Global, mut engine: Engine<C, TableOrd
     if !noted {
         return Err(AllocError);
     }
-    Ok(Transcript { answers, sheet: sheet? })
+    Ok(Transcript {
+        answers,
+        sheet: sheet?,
+    })
 }
 
 /// The words of the sheet of a fixed session; none of another.
@@ -169,12 +200,30 @@ pub fn answer_list(heap: Global, words: &[u32]) -> Result<Transcript, AllocError
         Ok(reader) => reader,
         Err(fault) => {
             answers.push(answer_words(Err(fault), None))?;
-            return Ok(Transcript { answers, sheet: Vec::new(heap) });
+            return Ok(Transcript {
+                answers,
+                sheet: Vec::new(heap),
+            });
         }
     };
     match await_opening(&mut reader, &mut answers)? {
-        Before::Ended => Ok(Transcript { answers, sheet: Vec::new(heap) }),
-        Before::Asked(Metal::Gold, opening) => run::<Shau>(heap, opening, Verb::OpenGold, reader, answers),
-        Before::Asked(Metal::Silver, opening) => run::<Shag>(heap, opening, Verb::OpenSilver, reader, answers),
+        Before::Ended => Ok(Transcript {
+            answers,
+            sheet: Vec::new(heap),
+        }),
+        Before::Asked(Metal::Gold, opening) => run::<Shau>(
+            heap,
+            opening,
+            Verb::OpenGold,
+            reader,
+            answers,
+        ),
+        Before::Asked(Metal::Silver, opening) => run::<Shag>(
+            heap,
+            opening,
+            Verb::OpenSilver,
+            reader,
+            answers,
+        ),
     }
 }

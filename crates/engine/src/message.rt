@@ -18,7 +18,11 @@ impl<C: FixingContract, P: SharingPolicy, B: MarginBook> Engine<C, P, B> {
     }
 
     /// Answers a message in two words at the front of `out`. With less room nothing happens.
-    pub fn answer_message(&mut self, message: &[u32], out: &mut [u32]) -> Result<Answer, MessageFault> {
+    pub fn answer_message(
+        &mut self,
+        message: &[u32],
+        out: &mut [u32],
+    ) -> Result<Answer, MessageFault> {
         if out.len() < 2 {
             return Err(MessageFault::Short);
         }

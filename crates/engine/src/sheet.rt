@@ -6,11 +6,11 @@ ghost use mathlib.Core.Path.{_≡_};
 ghost use Rattle.std.specs.Vec.{made, refused};
 ghost use Rattle.session.specs.State.{view};
 use crate::engine::Engine;
+use measures::Ticks;
 use messages::faults::MessageFault;
 use messages::faults::MessageFaultFromSession;
 use messages::kinds::Kind;
 use messages::kinds::word;
-use measures::Ticks;
 use session::fills::Fill;
 
 /// Writes the price, and three words a row: its number, the lots bought, the lots sold.

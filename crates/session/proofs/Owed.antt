@@ -30,10 +30,10 @@ dues-more margin which ls i d ds v h w s inv k b′ =
     let l : Line = getD ls i d in
     ⊎-elim
     (λ (p : (eqb (l .row) k ≡ true) × (l .row ≡ k)).
-      let P : ℕ → Type 0 = λ j. dueIn (set ds (l .row) v) j ≡ dueTo margin which (take (i + 1) ls) j in
-      subst P (p .1) (ap (λ (f : Fen). f .0) (getD-set-same ds (l .row) v noFen w) ∙ omega (arith, s, inv (l .row) w, due-here margin which l, sumBy-more (dueOf margin which (l .row)) ls i d h)))
+    let P : ℕ → Type 0 = λ j. dueIn (set ds (l .row) v) j ≡ dueTo margin which (take (i + 1) ls) j in
+    subst P (p .1) (ap (λ (f : Fen). f .0) (getD-set-same ds (l .row) v noFen w) ∙ omega (arith, s, inv (l .row) w, due-here margin which l, sumBy-more (dueOf margin which (l .row)) ls i d h)))
     (λ (p : (eqb (l .row) k ≡ false) × (l .row ≡ k → ⊥)).
-      let ne : k ≢ l .row = λ q. p .1 (sym q) in
-      let z : dueOf margin which k l ≡ 0 = ap (λ b. cond b (amount margin (lotsHit which l) (l .price .0)) 0) (p .0) in
-      ap (λ (f : Fen). f .0) (getD-set-other ds (l .row) k v noFen ne) ∙ omega (arith, inv k b, z, sumBy-more (dueOf margin which k) ls i d h))
+    let ne : k ≢ l .row = λ q. p .1 (sym q) in
+    let z : dueOf margin which k l ≡ 0 = ap (λ b. cond b (amount margin (lotsHit which l) (l .price .0)) 0) (p .0) in
+    ap (λ (f : Fen). f .0) (getD-set-other ds (l .row) k v noFen ne) ∙ omega (arith, inv k b, z, sumBy-more (dueOf margin which k) ls i d h))
     (eqb-tells (l .row) k)

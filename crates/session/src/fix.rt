@@ -11,6 +11,7 @@ use crate::fills::Fill;
 use crate::lines::Line;
 use crate::lines::Side;
 use crate::participants::Kind;
+use crate::participants::KindPartialEq;
 use crate::participants::MOST_ROWS;
 use crate::participants::Participant;
 use crate::periods::Period;
@@ -18,7 +19,6 @@ use crate::session::Session;
 use crate::stages::Stage;
 use measures::Lots;
 use sharing::policy::SharingPolicy;
-use crate::participants::KindPartialEq;
 
 impl Fill {
     /// The fill with more lots on a side.
@@ -40,7 +40,10 @@ impl Fill {
 fn fill_lines(lines: &[Line]) -> [Fill; MOST_ROWS]
     requires { ⌜ lawful 256 (now lines) ≡ true ⌝ }
 {
-    let mut fills = [Fill { bought: Lots(0), sold: Lots(0) }; MOST_ROWS];
+    let mut fills = [Fill {
+        bought: Lots(0),
+        sold: Lots(0),
+    }; MOST_ROWS];
     for line in lines {
         let row = line.row as usize;
         fills[row] = fills[row].with(line.side, line.lots);
@@ -49,7 +52,14 @@ fn fill_lines(lines: &[Line]) -> [Fill; MOST_ROWS]
 }
 
 /// Gives each Fixing Member its share of the excess on the side that takes it, in one pass over the rows.
-fn share_out<P: SharingPolicy>(rows: &[Participant], policy: &P, members: u32, excess: Lots, taker: Side, fills: &mut [Fill])
+fn share_out<P: SharingPolicy>(
+    rows: &[Participant],
+    policy: &P,
+    members: u32,
+    excess: Lots,
+    taker: Side,
+    fills: &mut [Fill],
+)
     requires few { ⌜ length (now rows) ≤ 256 ⌝ }
     requires room { ⌜ 256 ≤ length (now fills) ⌝ }
 {
@@ -70,7 +80,14 @@ impl<C, P: SharingPolicy> Session<C, P> {
         let excess = self.table.imbalance();
         let taker = self.table.excess().other();
         let mut fills = fill_lines(self.table.lines.as_slice());
-        share_out(self.rows.as_slice(), &self.policy, self.members, excess, taker, &mut fills);
+        share_out(
+            self.rows.as_slice(),
+            &self.policy,
+            self.members,
+            excess,
+            taker,
+            &mut fills,
+        );
         self.fills = fills;
         self.policy.tell(self.members, excess);
         self.period = Period {

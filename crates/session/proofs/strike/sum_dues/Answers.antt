@@ -32,9 +32,11 @@ index-dues-row-in-loop-line c = omega (arith, row-at 256 (c .args .lines .now) (
 pub loop-line-again : need.loop-line-again
 loop-line-again c =
     let l : Line = getD (c .args .lines .now) (c .loop-line .line-index) noLine in
-    let w : l .row < length (c .loop-line .dues) = omega (arith, row-at 256 (c .args .lines .now) (c .loop-line .line-index) noLine (c .pre .sound) (omega arith)) in
-    (simp length-set (c .loop-line .inv .0), λ k b. dues-more (c .args .figure .0) (c .args .which) (c .args .lines .now) (c .loop-line .line-index) noLine (c .loop-line .dues) (record { 0 = dueIn (c .loop-line .dues) (l .row) + c .due-due .result .0 })
-      (omega arith) w (ap (λ n. dueIn (c .loop-line .dues) (l .row) + n) (c .due-due .ensures)) (c .loop-line .inv .1) k b)
+    let w : l .row < length (c .loop-line .dues) = omega (arith, row-at 256 (c .args .lines .now) (c .loop-line .line-index) noLine (c .pre .sound) (omega arith)) in (
+      simp length-set (c .loop-line .inv .0),
+      λ k b. dues-more (c .args .figure .0) (c .args .which) (c .args .lines .now) (c .loop-line .line-index) noLine (c .loop-line .dues) (record { 0 = dueIn (c .loop-line .dues) (l .row) + c .due-due .result .0 })
+          (omega arith) w (ap (λ n. dueIn (c .loop-line .dues) (l .row) + n) (c .due-due .ensures)) (c .loop-line .inv .1) k b,
+    )
 
 pub loop-line-holds : need.loop-line-holds
 loop-line-holds c = (refl, λ k h. ap (λ (f : Fen). f .0) (getD-replicate 256 k noFen noFen h))
