@@ -22,14 +22,14 @@ rounded-le s n pos h =
     let q : s / n < 10000001 = div-below s n 10000001 pos (omega arith) in
     ⊎-elim
     (λ (p : (leb (10000000 * n) s ≡ true) × (10000000 * n ≤ s)).
-      let above = p .1 in
-      let e : s ≡ 10000000 * n = omega arith in
-      let R : ℕ → Type 0 = λ x. x % n ≡ 0 in
-      let z : s % n ≡ 0 = subst R (sym e) (mul-mod-left 10000000 n) in
-      let t : ltb (2 * (s % n)) n ≡ true = grind (arith, tells) in
-      let P : Bool → Type 0 = λ x. cond x (s / n) (s / n + 1) ≤ 10000000 in subst P (sym t) (omega arith))
+    let above = p .1 in
+    let e : s ≡ 10000000 * n = omega arith in
+    let R : ℕ → Type 0 = λ x. x % n ≡ 0 in
+    let z : s % n ≡ 0 = subst R (sym e) (mul-mod-left 10000000 n) in
+    let t : ltb (2 * (s % n)) n ≡ true = grind (arith, tells) in
+    let P : Bool → Type 0 = λ x. cond x (s / n) (s / n + 1) ≤ 10000000 in subst P (sym t) (omega arith))
     (λ (p : (leb (10000000 * n) s ≡ false) × (s < 10000000 * n)). let b : s / n < 10000000 = div-below s n 10000000 pos (p .1) in
-      elim (ltb (2 * (s % n)) n) as (λ x. cond x (s / n) (s / n + 1) ≤ 10000000) [ true ↦ omega arith | false ↦ omega arith ])
+    elim (ltb (2 * (s % n)) n) as (λ x. cond x (s / n) (s / n + 1) ≤ 10000000) [ true ↦ omega arith | false ↦ omega arith ])
     (leb-tells (10000000 * n) s)
 
 -- a mean is no more than the highest price where the sum is no more than that many times it
@@ -38,7 +38,7 @@ nearest-le s n h =
     ⊎-elim
     (λ (p : (eqb n 0 ≡ true) × (n ≡ 0)). let P : Bool → Type 0 = λ x. cond x 0 (cond (ltb (2 * (s % n)) n) (s / n) (s / n + 1)) ≤ 10000000 in subst P (sym (p .0)) (omega arith))
     (λ (p : (eqb n 0 ≡ false) × (n ≡ 0 → ⊥)). let ne = p .1 in let pos : 0 < n = omega arith in
-      let P : Bool → Type 0 = λ x. cond x 0 (cond (ltb (2 * (s % n)) n) (s / n) (s / n + 1)) ≤ 10000000 in subst P (sym (p .0)) (rounded-le s n pos h))
+    let P : Bool → Type 0 = λ x. cond x 0 (cond (ltb (2 * (s % n)) n) (s / n) (s / n + 1)) ≤ 10000000 in subst P (sym (p .0)) (rounded-le s n pos h))
     (eqb-tells n 0)
 
 -- what a tally keeps to: without one highest and one lowest the sum is at most the highest price times the rest
@@ -55,18 +55,19 @@ kept-noted t None k h = k
 kept-noted t (Some p) k h = let b : p .0 ≤ 10000000 = grind (arith, tells) in
     let top = k .top in
     record {
-    none = λ c. absurd (omega arith);
-    one = λ c. let z = k .none (omega arith) in (omega arith, omega arith);
-    order = λ c. omega arith;
-    top = omega arith;
-    low = λ c. ⊎-elim
-      (λ (q : (eqb (t .count) 1 ≡ true) × (t .count ≡ 1)). let o = k .one (q .1) in omega arith)
-      (λ (q : (eqb (t .count) 1 ≡ false) × (t .count ≡ 1 → ⊥)). let n = q .1 in let l = k .low (omega arith) in let o = k .order (omega arith) in omega arith)
-      (eqb-tells (t .count) 1);
-    high = λ c. ⊎-elim
-      (λ (q : (eqb (t .count) 1 ≡ true) × (t .count ≡ 1)). let o = k .one (q .1) in omega arith)
-      (λ (q : (eqb (t .count) 1 ≡ false) × (t .count ≡ 1 → ⊥)). let n = q .1 in let l = k .high (omega arith) in let o = k .order (omega arith) in omega arith)
-      (eqb-tells (t .count) 1) }
+      none = λ c. absurd (omega arith);
+      one = λ c. let z = k .none (omega arith) in (omega arith, omega arith);
+      order = λ c. omega arith;
+      top = omega arith;
+      low = λ c. ⊎-elim
+          (λ (q : (eqb (t .count) 1 ≡ true) × (t .count ≡ 1)). let o = k .one (q .1) in omega arith)
+          (λ (q : (eqb (t .count) 1 ≡ false) × (t .count ≡ 1 → ⊥)). let n = q .1 in let l = k .low (omega arith) in let o = k .order (omega arith) in omega arith)
+          (eqb-tells (t .count) 1);
+      high = λ c. ⊎-elim
+          (λ (q : (eqb (t .count) 1 ≡ true) × (t .count ≡ 1)). let o = k .one (q .1) in omega arith)
+          (λ (q : (eqb (t .count) 1 ≡ false) × (t .count ≡ 1 → ⊥)). let n = q .1 in let l = k .high (omega arith) in let o = k .order (omega arith) in omega arith)
+          (eqb-tells (t .count) 1);
+    }
 
 pub kept-folded : (qs : List (Option Ticks)) (t : Tally) → Kept t → lawfulQuotes qs ≡ true → Kept (folded noted t qs)
 kept-folded [] t k h = k

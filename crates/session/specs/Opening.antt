@@ -106,13 +106,14 @@ noFill = record { bought = record { 0 = 0 }; sold = record { 0 = 0 } }
 -- a session just opened: no quote, no line, nothing filled
 abbrev pub opened : {P : Type 0} → List Listed → ℕ → Ticks → ℕ → P → State P
 opened ls time previous limit policy = record {
-    rows = copied ls (length ls);
-    quotes = replicate (length ls) None;
-    lines = [];
-    limit = limit;
-    fills = replicate 256 noFill;
-    period = openedPeriod previous time;
-    policy = policy }
+  rows = copied ls (length ls);
+  quotes = replicate (length ls) None;
+  lines = [];
+  limit = limit;
+  fills = replicate 256 noFill;
+  period = openedPeriod previous time;
+  policy = policy;
+}
 
 -- an opening is refused by the first check that fails, and else only for want of memory
 abbrev pub Refuses : {C P : Type 0} → Check → Result (Session C P) (RefusedOpening P) → Type 0

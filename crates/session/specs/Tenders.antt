@@ -75,7 +75,8 @@ module _ {P : Type 0} where
       after (ofBook (freezing (m row) (amount margin (n .0) (s .period .price .0)))) s m (record {
         answer = Ok (record { line = length (s .lines); lots = n });
         state = tendered s time row side (n .0);
-        accounts = frozenAt m row (amount margin (n .0) (s .period .price .0)) })
+        accounts = frozenAt m row (amount margin (n .0) (s .period .price .0));
+      })
 
   abbrev pub tenderOutcome : ℕ → ℕ → State P → Accounts → ℕ → ℕ → Side → ℕ → Outcome P Tendered
   tenderOutcome margin largest s m time row side lots = takenOutcome margin s m time row side (lotsTaken largest s time row side lots)

@@ -20,8 +20,8 @@ use crate::means::quoted_mean;
 use crate::periods::Period;
 use crate::session::Session;
 use crate::stages::Stage;
-use measures::Ticks;
 use crate::stages::StagePartialEq;
+use measures::Ticks;
 
 /// That each executed price is one.
 fn check_prices<L: PriceList>(executed: &L) -> Result<(), SessionFault>
@@ -44,7 +44,8 @@ impl<C, P> Session<C, P> {
         if executed.count() > 10_000 {
             return Err(SessionFault::TooManyPrices);
         }
-        self.period.admit(self.period.stage == Stage::Quoting, time)?;
+        self.period
+            .admit(self.period.stage == Stage::Quoting, time)?;
         check_ended(self.period.ends + 60_000, time)?;
         check_prices(executed)
     }

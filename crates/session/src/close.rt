@@ -16,11 +16,11 @@ use crate::periods::Move;
 use crate::periods::Period;
 use crate::session::Session;
 use crate::stages::Stage;
+use crate::stages::StagePartialEq;
 use books::book::MarginBook;
 use contracts::fixing::FixingContract;
 use measures::Ticks;
 use sharing::policy::SharingPolicy;
-use crate::stages::StagePartialEq;
 
 /// No round comes after this one.
 pub(crate) const LAST_ROUND: u32 = 64;
@@ -59,7 +59,7 @@ impl<C: FixingContract, P: SharingPolicy> Session<C, P> {
 
     fn close_market(&mut self, time: u32) -> Standing
         requires { ⌜ time ≤ 86399999 ⌝ }
-        ensures { λ r. ⌜ ((m : Accounts) → came (Ok r) (view (now (self .exit))) m ≡ marketOutcome (P·SharingPolicy .told) (now (self .exit) .fills) (view (now (self .entry))) m time) ⌝ }
+        ensures { λ r. ⌜ ((m : Accounts) → came (Ok r) (view (now (self .exit))) m ≡ marketOutcome (P·SharingPolicy .share) (P·SharingPolicy .told) (view (now (self .entry))) m time) ⌝ }
     {
         if self.table.imbalance().0 == 0 {
             self.fix(time);
@@ -76,7 +76,13 @@ impl<C: FixingContract, P: SharingPolicy> Session<C, P> {
     }
 
     /// Strikes the side of the excess, and opens the next round at the moved price.
-    fn advance<B: MarginBook>(&mut self, book: &mut B, time: u32, by: Move, price: Ticks) -> Result<Standing, SessionFault>
+    fn advance<B: MarginBook>(
+        &mut self,
+        book: &mut B,
+        time: u32,
+        by: Move,
+        price: Ticks,
+    ) -> Result<Standing, SessionFault>
         requires time { ⌜ time ≤ 86399999 ⌝ }
         requires round { ⌜ now self .period .round < 64 ⌝ }
         requires price { ⌜ price .0 ≤ 10000000 ⌝ }
@@ -96,7 +102,11 @@ impl<C: FixingContract, P: SharingPolicy> Session<C, P> {
         Ok(self.standing())
     }
 
-    fn move_price<B: MarginBook>(&mut self, book: &mut B, time: u32) -> Result<Standing, SessionFault>
+    fn move_price<B: MarginBook>(
+        &mut self,
+        book: &mut B,
+        time: u32,
+    ) -> Result<Standing, SessionFault>
         requires { ⌜ time ≤ 86399999 ⌝ }
         ensures outcome { λ r. ⌜ came r (view (now (self .exit))) (B·MarginBook .means (now (book .exit))) ≡ moveOutcome (C·QuotedContract .margin) (view (now (self .entry))) (B·MarginBook .means (now (book .entry))) time (closeMove (C·FixingContract .step) (view (now (self .entry)))) (movedPrice (now (self .entry) .period .price .0) (closeMove (C·FixingContract .step) (view (now (self .entry))))) ⌝ }
         ensures kept { λ r. ⌜ refused r (λ _. (view (now (self .exit)) ≡ view (now (self .entry))) × (B·MarginBook .means (now (book .exit)) ≡ B·MarginBook .means (now (book .entry)))) ⌝ }
@@ -108,9 +118,13 @@ impl<C: FixingContract, P: SharingPolicy> Session<C, P> {
         }
     }
 
-    fn close_supplementary<B: MarginBook>(&mut self, book: &mut B, time: u32) -> Result<Standing, SessionFault>
+    fn close_supplementary<B: MarginBook>(
+        &mut self,
+        book: &mut B,
+        time: u32,
+    ) -> Result<Standing, SessionFault>
         requires { ⌜ time ≤ 86399999 ⌝ }
-        ensures outcome { λ r. ⌜ came r (view (now (self .exit))) (B·MarginBook .means (now (book .exit))) ≡ supplementaryOutcome (C·QuotedContract .margin) (C·FixingContract .threshold) (C·FixingContract .step) (P·SharingPolicy .told) (now (self .exit) .fills) (view (now (self .entry))) (B·MarginBook .means (now (book .entry))) time ⌝ }
+        ensures outcome { λ r. ⌜ came r (view (now (self .exit))) (B·MarginBook .means (now (book .exit))) ≡ supplementaryOutcome (C·QuotedContract .margin) (C·FixingContract .threshold) (C·FixingContract .step) (P·SharingPolicy .share) (P·SharingPolicy .told) (view (now (self .entry))) (B·MarginBook .means (now (book .entry))) time ⌝ }
         ensures kept { λ r. ⌜ refused r (λ _. (view (now (self .exit)) ≡ view (now (self .entry))) × (B·MarginBook .means (now (book .exit)) ≡ B·MarginBook .means (now (book .entry)))) ⌝ }
     {
         if self.table.imbalance().0 <= C::threshold_lots().0 {
@@ -121,8 +135,12 @@ impl<C: FixingContract, P: SharingPolicy> Session<C, P> {
     }
 
     /// Ends the period.
-    pub fn close<B: MarginBook>(&mut self, book: &mut B, time: u32) -> Result<Standing, SessionFault>
-        ensures outcome { λ r. ⌜ came r (view (now (self .exit))) (B·MarginBook .means (now (book .exit))) ≡ closeOutcome (C·QuotedContract .margin) (C·FixingContract .threshold) (C·FixingContract .step) (P·SharingPolicy .told) (now (self .exit) .fills) (view (now (self .entry))) (B·MarginBook .means (now (book .entry))) time ⌝ }
+    pub fn close<B: MarginBook>(
+        &mut self,
+        book: &mut B,
+        time: u32,
+    ) -> Result<Standing, SessionFault>
+        ensures outcome { λ r. ⌜ came r (view (now (self .exit))) (B·MarginBook .means (now (book .exit))) ≡ closeOutcome (C·QuotedContract .margin) (C·FixingContract .threshold) (C·FixingContract .step) (P·SharingPolicy .share) (P·SharingPolicy .told) (view (now (self .entry))) (B·MarginBook .means (now (book .entry))) time ⌝ }
         ensures kept { λ r. ⌜ refused r (λ _. (view (now (self .exit)) ≡ view (now (self .entry))) × (B·MarginBook .means (now (book .exit)) ≡ B·MarginBook .means (now (book .entry)))) ⌝ }
     {
         self.check_close(time)?;

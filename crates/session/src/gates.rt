@@ -40,14 +40,22 @@ impl Period {
 pub(crate) fn check_in_time(ends: u32, time: u32) -> Result<(), SessionFault>
     ensures { λ r. ⌜ r ≡ inTime ends time ⌝ }
 {
-    if time >= ends { Err(SessionFault::Over) } else { Ok(()) }
+    if time >= ends {
+        Err(SessionFault::Over)
+    } else {
+        Ok(())
+    }
 }
 
 /// That a period is over.
 pub(crate) fn check_ended(ends: u32, time: u32) -> Result<(), SessionFault>
     ensures { λ r. ⌜ r ≡ ended ends time ⌝ }
 {
-    if time < ends { Err(SessionFault::NotOver) } else { Ok(()) }
+    if time < ends {
+        Err(SessionFault::NotOver)
+    } else {
+        Ok(())
+    }
 }
 
 /// That there is such a row.
@@ -55,7 +63,11 @@ pub(crate) fn check_row(rows: &Vec<Participant>, row: u32) -> Result<(), Session
     ensures answer { λ r. ⌜ r ≡ rowIn (vec-items (now (rows .entry))) row ⌝ }
     ensures within { λ r. ⌜ made r (λ _. row < vec-len (now (rows .entry))) ⌝ }
 {
-    if row as usize >= rows.len() { Err(SessionFault::Row) } else { Ok(()) }
+    if row as usize >= rows.len() {
+        Err(SessionFault::Row)
+    } else {
+        Ok(())
+    }
 }
 
 /// That a price is one, the price at this place of its call.

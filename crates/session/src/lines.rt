@@ -44,7 +44,11 @@ impl Line {
     pub fn lots_on(&self, side: Side) -> Lots
         ensures { λ r. ⌜ r .0 ≡ lotsOn side (now (self .entry)) ⌝ }
     {
-        if self.side == side { self.lots } else { Lots(0) }
+        if self.side == side {
+            self.lots
+        } else {
+            Lots(0)
+        }
     }
 }
 

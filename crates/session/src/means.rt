@@ -20,7 +20,11 @@ pub fn nearest_mean(sum: u64, count: u64) -> u64
     }
     let rest = sum % count;
     // twice the rest may not fit, so it is held against what is missing to the next multiple
-    if rest < count - rest { sum / count } else { sum / count + 1 }
+    if rest < count - rest {
+        sum / count
+    } else {
+        sum / count + 1
+    }
 }
 
 impl Tally {

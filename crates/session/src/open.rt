@@ -178,7 +178,11 @@ fn check_time(time: u32) -> Result<(), SessionFault>
     ensures answer { λ r. ⌜ r ≡ timeFits time ⌝ }
     ensures within { λ r. ⌜ made r (λ _. time ≤ 86399999) ⌝ }
 {
-    if time > LAST_TIME { Err(SessionFault::Time) } else { Ok(()) }
+    if time > LAST_TIME {
+        Err(SessionFault::Time)
+    } else {
+        Ok(())
+    }
 }
 
 /// That a line table can have such a limit.
@@ -194,7 +198,12 @@ fn check_limit(limit: usize) -> Result<(), SessionFault>
 }
 
 /// All that an opening asks, but for memory.
-fn check_open<R: Roster>(roster: &R, time: u32, previous: Ticks, limit: usize) -> Result<(), SessionFault>
+fn check_open<R: Roster>(
+    roster: &R,
+    time: u32,
+    previous: Ticks,
+    limit: usize,
+) -> Result<(), SessionFault>
     ensures answer { λ r. ⌜ r ≡ openCheck (R·Roster .listed (now (roster .entry))) time (previous .0) limit ⌝ }
     ensures figures { λ r. ⌜ made r (λ _. (time ≤ 86399999) × (previous .0 ≤ 10000000) × (limit ≤ 4096)) ⌝ }
     ensures counts { λ r. ⌜ made r (λ _. (length (R·Roster .listed (now (roster .entry))) ≤ 256) × (1 ≤ memberCount (copied (R·Roster .listed (now (roster .entry))) (length (R·Roster .listed (now (roster .entry)))))) × (memberCount (copied (R·Roster .listed (now (roster .entry))) (length (R·Roster .listed (now (roster .entry))))) ≤ 32)) ⌝ }
@@ -227,7 +236,11 @@ fn make_tables<R: Roster>(heap: Global, roster: &R, limit: usize) -> Result<Tabl
     let rows = copy_rows(heap, roster)?;
     let quotes = vec![in heap; None; roster.rows()]?;
     let lines = LineTable::new(heap, limit, roster.rows())?;
-    Ok(Tables { rows, quotes, lines })
+    Ok(Tables {
+        rows,
+        quotes,
+        lines,
+    })
 }
 
 /// When quoting is over: 300,000 ms after an opening before noon, 240,000 after a later one.
@@ -240,7 +253,14 @@ fn quoting_ends(time: u32) -> u32
 
 impl<C, P> Session<C, P> {
     /// Opens a session with room for `limit` lines; the excess of its fix is shared by `policy`.
-    pub fn open<R: Roster>(heap: Global, time: u32, previous: Ticks, roster: &R, limit: usize, policy: P) -> Result<Session<C, P>, RefusedOpening<P>>
+    pub fn open<R: Roster>(
+        heap: Global,
+        time: u32,
+        previous: Ticks,
+        roster: &R,
+        limit: usize,
+        policy: P,
+    ) -> Result<Session<C, P>, RefusedOpening<P>>
         ensures opened { λ r. ⌜ made r (λ s. view s ≡ opened (R·Roster .listed (now (roster .entry))) time previous limit policy) ⌝ }
         ensures refused { λ r. ⌜ refused r (λ e. e .policy ≡ policy) ⌝ }
         ensures fault { λ r. ⌜ Refuses (openCheck (R·Roster .listed (now (roster .entry))) time (previous .0) limit) r ⌝ }
@@ -251,13 +271,22 @@ impl<C, P> Session<C, P> {
         let seats = count_seats(roster);
         let members = count_members(roster);
         match make_tables(heap, roster, limit) {
-            Ok(Tables { rows, quotes, lines }) => Ok(Session {
+            Ok(
+                Tables {
+                    rows,
+                    quotes,
+                    lines,
+                },
+            ) => Ok(Session {
                 rows,
                 members,
                 seats,
                 quotes,
                 table: lines,
-                fills: [Fill { bought: Lots(0), sold: Lots(0) }; MOST_ROWS],
+                fills: [Fill {
+                    bought: Lots(0),
+                    sold: Lots(0),
+                }; MOST_ROWS],
                 period: Period {
                     stage: Stage::Quoting,
                     round: 0,
@@ -281,8 +310,13 @@ impl<C, P> Session<C, P> {
 
 impl<C> Session<C, TableOrder> {
     /// Opens a session with no policy named: the excess is shared in table order.
-    pub fn open_in_table_order<R: Roster>(heap: Global, time: u32, previous: Ticks, roster: &R, limit: usize) -> Result<Session<C, TableOrder>, SessionFault>
-        {
+    pub fn open_in_table_order<R: Roster>(
+        heap: Global,
+        time: u32,
+        previous: Ticks,
+        roster: &R,
+        limit: usize,
+    ) -> Result<Session<C, TableOrder>, SessionFault> {
         match Session::open(heap, time, previous, roster, limit, TableOrder) {
             Ok(session) => Ok(session),
             Err(RefusedOpening { fault, policy: _ }) => Err(fault),

@@ -16,8 +16,8 @@ use crate::participants::Kind;
 use crate::participants::Participant;
 use crate::session::Session;
 use crate::stages::Stage;
-use measures::Ticks;
 use crate::stages::StagePartialEq;
+use measures::Ticks;
 
 /// That a row is a quoting seat.
 fn check_seat(rows: &Vec<Participant>, row: u32) -> Result<(), SessionFault>
@@ -45,7 +45,8 @@ impl<C, P> Session<C, P> {
         ensures answer { λ r. ⌜ r ≡ quoteCheck (view (now (self .entry))) time row (price .0) ⌝ }
         ensures within { λ r. ⌜ made r (λ _. (row < vec-len (now (self .entry) .rows)) × (price .0 ≤ 10000000)) ⌝ }
     {
-        self.period.admit(self.period.stage == Stage::Quoting, time)?;
+        self.period
+            .admit(self.period.stage == Stage::Quoting, time)?;
         check_in_time(self.period.ends, time)?;
         check_row(&self.rows, row)?;
         check_seat(&self.rows, row)?;

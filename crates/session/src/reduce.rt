@@ -17,10 +17,10 @@ use crate::gates::check_row;
 use crate::margins::margin_of;
 use crate::session::Session;
 use crate::stages::Stage;
+use crate::stages::StagePartialEq;
 use books::book::MarginBook;
 use contracts::quoted::QuotedContract;
 use measures::Lots;
-use crate::stages::StagePartialEq;
 
 impl<C: QuotedContract, P> Session<C, P> {
     fn check_line(&self, row: u32, line: u32, lots: Lots) -> Result<(), SessionFault>
@@ -55,7 +55,14 @@ impl<C: QuotedContract, P> Session<C, P> {
     }
 
     /// Takes lots off a row's own line, and releases their margin at the price they were tendered at.
-    pub fn reduce<B: MarginBook>(&mut self, book: &mut B, time: u32, row: u32, line: u32, lots: Lots) -> Result<Standing, SessionFault>
+    pub fn reduce<B: MarginBook>(
+        &mut self,
+        book: &mut B,
+        time: u32,
+        row: u32,
+        line: u32,
+        lots: Lots,
+    ) -> Result<Standing, SessionFault>
         ensures outcome { λ r. ⌜ came r (view (now (self .exit))) (B·MarginBook .means (now (book .exit))) ≡ reduceOutcome (C·QuotedContract .margin) (C·QuotedContract .largest) (view (now (self .entry))) (B·MarginBook .means (now (book .entry))) time row line (lots .0) ⌝ }
         ensures kept { λ r. ⌜ refused r (λ _. (view (now (self .exit)) ≡ view (now (self .entry))) × (B·MarginBook .means (now (book .exit)) ≡ B·MarginBook .means (now (book .entry)))) ⌝ }
     {

@@ -11,8 +11,8 @@ use crate::faults::SessionFault;
 use crate::fills::Fill;
 use crate::session::Session;
 use crate::stages::Stage;
-use measures::Ticks;
 use crate::stages::StagePartialEq;
+use measures::Ticks;
 
 /// The benchmark, and what each row bought and sold at it.
 #[derive(Clone, Copy)]

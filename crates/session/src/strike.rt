@@ -33,7 +33,11 @@ impl Line {
         requires price { ⌜ now self .price .0 ≤ 10000000 ⌝ }
         ensures { λ r. ⌜ r .0 ≡ amount (figure .0) (lotsHit which (now (self .entry))) (now (self .entry) .price .0) ⌝ }
     {
-        let lots = if which.hits(self.side) { self.lots } else { Lots(0) };
+        let lots = if which.hits(self.side) {
+            self.lots
+        } else {
+            Lots(0)
+        };
         margin_of(figure, lots, self.price)
     }
 }
@@ -124,7 +128,11 @@ impl<C: QuotedContract, P> Session<C, P> {
     }
 
     /// Strikes lines; a refusal of the book changes nothing.
-    pub(crate) fn strike<B: MarginBook>(&mut self, book: &mut B, which: Struck) -> Result<(), SessionFault>
+    pub(crate) fn strike<B: MarginBook>(
+        &mut self,
+        book: &mut B,
+        which: Struck,
+    ) -> Result<(), SessionFault>
         ensures outcome { λ r. ⌜ came r (view (now (self .exit))) (B·MarginBook .means (now (book .exit))) ≡ strikeOutcome (C·QuotedContract .margin) (view (now (self .entry))) (B·MarginBook .means (now (book .entry))) which ⌝ }
         ensures kept { λ r. ⌜ refused r (λ _. (view (now (self .exit)) ≡ view (now (self .entry))) × (B·MarginBook .means (now (book .exit)) ≡ B·MarginBook .means (now (book .entry)))) ⌝ }
     {

@@ -17,17 +17,19 @@ use crate::orders::SuspensionOrder;
 use crate::periods::Period;
 use crate::session::Session;
 use crate::stages::Stage;
+use crate::stages::StagePartialEq;
 use books::book::MarginBook;
 use contracts::quoted::QuotedContract;
 use measures::Ticks;
-use crate::stages::StagePartialEq;
 
 impl<C, P> Session<C, P> {
     fn suspended(&mut self, time: u32) -> Result<Standing, SessionFault>
         ensures outcome { λ r. ⌜ ((m : Accounts) → came r (view (now (self .exit))) m ≡ suspendOutcome (view (now (self .entry))) m time) ⌝ }
         ensures kept { λ r. ⌜ refused r (λ _. view (now (self .exit)) ≡ view (now (self .entry))) ⌝ }
     {
-        let running = self.period.stage == Stage::Market || self.period.stage == Stage::Supplementary || self.period.stage == Stage::Halted;
+        let running = self.period.stage == Stage::Market
+            || self.period.stage == Stage::Supplementary
+            || self.period.stage == Stage::Halted;
         self.period.admit(running, time)?;
         Ok(self.turn_to(Stage::Suspended, time))
     }
@@ -45,7 +47,8 @@ impl<C, P> Session<C, P> {
         ensures answer { λ r. ⌜ r ≡ measureCheck (view (now (self .entry))) time (price .0) ⌝ }
         ensures within { λ r. ⌜ made r (λ _. (time ≤ 86399999) × (price .0 ≤ 10000000)) ⌝ }
     {
-        self.period.admit(self.period.stage == Stage::Suspended, time)?;
+        self.period
+            .admit(self.period.stage == Stage::Suspended, time)?;
         check_price(price, 0)
     }
 
@@ -63,7 +66,11 @@ impl<C, P> Session<C, P> {
 
 impl<C: QuotedContract, P> Session<C, P> {
     /// What both measures do: all lines are struck, and another period is entered.
-    fn strike_all<B: MarginBook>(&mut self, book: &mut B, period: Period) -> Result<Standing, SessionFault>
+    fn strike_all<B: MarginBook>(
+        &mut self,
+        book: &mut B,
+        period: Period,
+    ) -> Result<Standing, SessionFault>
         requires price { ⌜ period .price .0 ≤ 10000000 ⌝ }
         requires previous { ⌜ period .previous .0 ≤ 10000000 ⌝ }
         requires round { ⌜ period .round ≤ 64 ⌝ }
@@ -76,7 +83,12 @@ impl<C: QuotedContract, P> Session<C, P> {
         Ok(self.standing())
     }
 
-    fn reissue<B: MarginBook>(&mut self, book: &mut B, time: u32, price: Ticks) -> Result<Standing, SessionFault>
+    fn reissue<B: MarginBook>(
+        &mut self,
+        book: &mut B,
+        time: u32,
+        price: Ticks,
+    ) -> Result<Standing, SessionFault>
         ensures outcome { λ r. ⌜ came r (view (now (self .exit))) (B·MarginBook .means (now (book .exit))) ≡ reissueOutcome (C·QuotedContract .margin) (view (now (self .entry))) (B·MarginBook .means (now (book .entry))) time price ⌝ }
         ensures kept { λ r. ⌜ refused r (λ _. (view (now (self .exit)) ≡ view (now (self .entry))) × (B·MarginBook .means (now (book .exit)) ≡ B·MarginBook .means (now (book .entry)))) ⌝ }
     {
@@ -93,7 +105,12 @@ impl<C: QuotedContract, P> Session<C, P> {
         self.strike_all(book, period)
     }
 
-    fn announce<B: MarginBook>(&mut self, book: &mut B, time: u32, price: Ticks) -> Result<Standing, SessionFault>
+    fn announce<B: MarginBook>(
+        &mut self,
+        book: &mut B,
+        time: u32,
+        price: Ticks,
+    ) -> Result<Standing, SessionFault>
         ensures outcome { λ r. ⌜ came r (view (now (self .exit))) (B·MarginBook .means (now (book .exit))) ≡ announceOutcome (C·QuotedContract .margin) (view (now (self .entry))) (B·MarginBook .means (now (book .entry))) time price ⌝ }
         ensures kept { λ r. ⌜ refused r (λ _. (view (now (self .exit)) ≡ view (now (self .entry))) × (B·MarginBook .means (now (book .exit)) ≡ B·MarginBook .means (now (book .entry)))) ⌝ }
     {
@@ -110,7 +127,13 @@ impl<C: QuotedContract, P> Session<C, P> {
 
 impl SuspensionOrder {
     /// Strikes all lines and starts a new round at a price that the exchange sets.
-    pub fn reissue<C: QuotedContract, P, B: MarginBook>(self, session: &mut Session<C, P>, book: &mut B, time: u32, price: Ticks) -> Result<Standing, RefusedMeasure>
+    pub fn reissue<C: QuotedContract, P, B: MarginBook>(
+        self,
+        session: &mut Session<C, P>,
+        book: &mut B,
+        time: u32,
+        price: Ticks,
+    ) -> Result<Standing, RefusedMeasure>
         ensures outcome { λ r. ⌜ came (withOrder r) (view (now (session .exit))) (B·MarginBook .means (now (book .exit))) ≡ reissueOutcome (C·QuotedContract .margin) (view (now (session .entry))) (B·MarginBook .means (now (book .entry))) time price ⌝ }
         ensures kept { λ r. ⌜ refused r (λ _. (view (now (session .exit)) ≡ view (now (session .entry))) × (B·MarginBook .means (now (book .exit)) ≡ B·MarginBook .means (now (book .entry)))) ⌝ }
     {
@@ -124,7 +147,13 @@ impl SuspensionOrder {
     }
 
     /// Strikes all lines and sets the benchmark; nothing is filled.
-    pub fn announce<C: QuotedContract, P, B: MarginBook>(self, session: &mut Session<C, P>, book: &mut B, time: u32, price: Ticks) -> Result<Standing, RefusedMeasure>
+    pub fn announce<C: QuotedContract, P, B: MarginBook>(
+        self,
+        session: &mut Session<C, P>,
+        book: &mut B,
+        time: u32,
+        price: Ticks,
+    ) -> Result<Standing, RefusedMeasure>
         ensures outcome { λ r. ⌜ came (withOrder r) (view (now (session .exit))) (B·MarginBook .means (now (book .exit))) ≡ announceOutcome (C·QuotedContract .margin) (view (now (session .entry))) (B·MarginBook .means (now (book .entry))) time price ⌝ }
         ensures kept { λ r. ⌜ refused r (λ _. (view (now (session .exit)) ≡ view (now (session .entry))) × (B·MarginBook .means (now (book .exit)) ≡ B·MarginBook .means (now (book .entry)))) ⌝ }
     {

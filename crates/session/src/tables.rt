@@ -106,6 +106,10 @@ impl LineTable {
     pub(crate) fn excess(&self) -> Side
         ensures { λ r. ⌜ r ≡ excess (vec-items (now (self .entry) .lines)) ⌝ }
     {
-        if self.buys.0 > self.sells.0 { Side::Buy } else { Side::Sell }
+        if self.buys.0 > self.sells.0 {
+            Side::Buy
+        } else {
+            Side::Sell
+        }
     }
 }

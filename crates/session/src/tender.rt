@@ -14,16 +14,16 @@ use crate::gates::check_lots;
 use crate::gates::check_row;
 use crate::lines::Line;
 use crate::lines::Side;
+use crate::lines::SidePartialEq;
 use crate::margins::margin_of;
 use crate::participants::Kind;
+use crate::participants::KindPartialEq;
 use crate::session::Session;
 use crate::stages::Stage;
+use crate::stages::StagePartialEq;
 use books::book::MarginBook;
 use contracts::quoted::QuotedContract;
 use measures::Lots;
-use crate::lines::SidePartialEq;
-use crate::participants::KindPartialEq;
-use crate::stages::StagePartialEq;
 
 impl<C: QuotedContract, P> Session<C, P> {
     fn check_entry(&self, time: u32, row: u32) -> Result<(), SessionFault>
@@ -114,7 +114,14 @@ impl<C: QuotedContract, P> Session<C, P> {
     }
 
     /// Takes a tender: a line of the lots taken, whose margin the book freezes.
-    pub fn tender<B: MarginBook>(&mut self, book: &mut B, time: u32, row: u32, side: Side, lots: Lots) -> Result<Tendered, SessionFault>
+    pub fn tender<B: MarginBook>(
+        &mut self,
+        book: &mut B,
+        time: u32,
+        row: u32,
+        side: Side,
+        lots: Lots,
+    ) -> Result<Tendered, SessionFault>
         ensures outcome { λ r. ⌜ came r (view (now (self .exit))) (B·MarginBook .means (now (book .exit))) ≡ tenderOutcome (C·QuotedContract .margin) (C·QuotedContract .largest) (view (now (self .entry))) (B·MarginBook .means (now (book .entry))) time row side (lots .0) ⌝ }
         ensures kept { λ r. ⌜ refused r (λ _. (view (now (self .exit)) ≡ view (now (self .entry))) × (B·MarginBook .means (now (book .exit)) ≡ B·MarginBook .means (now (book .entry)))) ⌝ }
     {

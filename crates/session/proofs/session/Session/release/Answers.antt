@@ -24,7 +24,8 @@ returns g c =
     record {
       answer = c .in-Continue-check-dues .ensures tt ∙ (covers-same m (dueIn (c .dues-dues .result)) due n same ∙ ap (λ k. coversAll m due k) count);
       after = c .release-dues .ensures ∙ (released-same m (dueIn (c .dues-dues .result)) due n same ∙ ap (λ k. releasedAll m due k) count);
-      kept = tt }
+      kept = tt;
+    }
 
 pub returns-in-Break-check-dues : need.returns-in-Break-check-dues
 returns-in-Break-check-dues g c =
@@ -37,4 +38,5 @@ returns-in-Break-check-dues g c =
     record {
       answer = p .1 ∙ ap Err (p .2) ∙ (c .in-Break-check-dues .ensures tt ∙ (covers-same m (dueIn (c .dues-dues .result)) due n same ∙ ap (λ k. coversAll m due k) count));
       after = made-not (c .from-residual .result) (p .0) _ (p .1);
-      kept = refused-all (c .from-residual .result) _ (λ y. refl) }
+      kept = refused-all (c .from-residual .result) _ (λ y. refl);
+    }
