@@ -1,7 +1,11 @@
 //! Answering a call.
 
 ghost use mathlib.Core.Path.{_≡_};
-ghost use Rattle.engine.specs.declared.engine.Held.the-variants.{Nothing};
+ghost use Rattle.std.specs.Vec.{made, refused};
+ghost use Rattle.session.specs.Opening.{opened};
+ghost use Rattle.session.specs.State.{view, standingAt};
+ghost use Rattle.engine.specs.Misplaced.{misplacedAt};
+ghost use Rattle.engine.specs.declared.engine.Held.the-variants.{Nothing, Order};
 use crate::engine::Engine;
 use crate::engine::Held;
 use books::book::MarginBook;
@@ -27,7 +31,9 @@ use std::alloc::Global;
 const LAST_TIME: u32 = 86_399_999;
 
 /// Why a call is refused that this stage never takes.
-pub(crate) fn misplaced(time: u32) -> SessionFault {
+pub(crate) fn misplaced(time: u32) -> SessionFault
+    ensures { λ r. ⌜ r ≡ misplacedAt time ⌝ }
+{
     if time > LAST_TIME {
         SessionFault::Time
     } else {
@@ -69,13 +75,18 @@ impl<C, P, B> Engine<C, P, B> {
     }
 
     /// Where the session stands.
-    pub fn standing(&self) -> Standing {
+    pub fn standing(&self) -> Standing
+        ensures { λ r. ⌜ r ≡ standingAt (view (now (self .entry) .session) .period) ⌝ }
+    {
         self.session.standing()
     }
 
     /// Takes an order into the empty hand.
     fn keep(&mut self, order: SuspensionOrder)
         requires { ⌜ now self .held ≡ Nothing ⌝ }
+        ensures session { λ _. ⌜ now (self .exit) .session ≡ now (self .entry) .session ⌝ }
+        ensures book { λ _. ⌜ now (self .exit) .book ≡ now (self .entry) .book ⌝ }
+        ensures held { λ _. ⌜ now (self .exit) .held ≡ Order order ⌝ }
     {
         match std::mem::replace(&mut self.held, Held::Order(order)) {
             Held::Nothing => {}
@@ -84,7 +95,10 @@ impl<C, P, B> Engine<C, P, B> {
     }
 
     /// Suspends the session, unless it is suspended: then its order is in hand.
-    fn suspend(&mut self, time: u32) -> Result<Standing, SessionFault> {
+    fn suspend(&mut self, time: u32) -> Result<Standing, SessionFault>
+        ensures book { λ _. ⌜ now (self .exit) .book ≡ now (self .entry) .book ⌝ }
+        ensures kept { λ r. ⌜ refused r (λ _. view (now (self .exit) .session) ≡ view (now (self .entry) .session)) ⌝ }
+    {
         if let Held::Order(_) = &self.held {
             return Err(misplaced(time));
         }
@@ -95,7 +109,9 @@ impl<C, P, B> Engine<C, P, B> {
 }
 
 impl<C: FixingContract, P: SharingPolicy, B: MarginBook> Engine<C, P, B> {
-    fn reissue(&mut self, time: u32, price: Ticks) -> Result<Standing, SessionFault> {
+    fn reissue(&mut self, time: u32, price: Ticks) -> Result<Standing, SessionFault>
+        ensures kept { λ r. ⌜ refused r (λ _. (view (now (self .exit) .session) ≡ view (now (self .entry) .session)) × (B·MarginBook .means (now (self .exit) .book) ≡ B·MarginBook .means (now (self .entry) .book))) ⌝ }
+    {
         match std::mem::replace(&mut self.held, Held::Nothing) {
             Held::Nothing => Err(misplaced(time)),
             Held::Order(order) => match order.reissue(
@@ -113,7 +129,9 @@ impl<C: FixingContract, P: SharingPolicy, B: MarginBook> Engine<C, P, B> {
         }
     }
 
-    fn announce(&mut self, time: u32, price: Ticks) -> Result<Standing, SessionFault> {
+    fn announce(&mut self, time: u32, price: Ticks) -> Result<Standing, SessionFault>
+        ensures kept { λ r. ⌜ refused r (λ _. (view (now (self .exit) .session) ≡ view (now (self .entry) .session)) × (B·MarginBook .means (now (self .exit) .book) ≡ B·MarginBook .means (now (self .entry) .book))) ⌝ }
+    {
         match std::mem::replace(&mut self.held, Held::Nothing) {
             Held::Nothing => Err(misplaced(time)),
             Held::Order(order) => match order.announce(
@@ -132,7 +150,9 @@ impl<C: FixingContract, P: SharingPolicy, B: MarginBook> Engine<C, P, B> {
     }
 
     /// Answers a call. A refusal changes nothing.
-    pub fn answer(&mut self, call: &Call) -> Result<Answer, MessageFault> {
+    pub fn answer(&mut self, call: &Call) -> Result<Answer, MessageFault>
+        ensures kept { λ r. ⌜ refused r (λ _. (view (now (self .exit) .session) ≡ view (now (self .entry) .session)) × (B·MarginBook .means (now (self .exit) .book) ≡ B·MarginBook .means (now (self .entry) .book))) ⌝ }
+    {
         Ok(
             match *call {
                 Call::Quote { time, row, price } => Answer::Standing(

@@ -5,4 +5,5 @@ pub mod Priced
 pub mod Refusals
 pub mod Releases
 pub mod Owed
+pub mod Shared
 pub mod Seated

@@ -1,39 +1,53 @@
-use Prim.Native.Nat.{ℕ, zero, suc, _+_, _*_, _≤_, _<_}
-use mathlib.Core.Bool.{Bool, true, false, cond}
-use mathlib.Core.List.{List, [], _∷_, map}
+use Prim.Native.Nat.{ℕ, _+_, _*_, _≤_, _<_}
+use mathlib.Core.Bool.{true, false, cond}
+use mathlib.Core.List.{List, [], _∷_}
 use mathlib.Core.Logic.{_⊎_, ⊎-elim, _≢_}
-use mathlib.Core.Path.{_≡_, refl, sym, ap, subst, _∙_}
+use mathlib.Core.Path.{_≡_, sym, ap, subst, _∙_}
 use lib.Dec.{eqb}
 use lib.ListN.{length, getD, set, take, length-set}
 use lib.Seq.{getD-set-same, getD-set-other}
 use native.Mathlib.Omega.{arith}
-use Rattle.std.proofs.shelf.Sums.{sumBy-more}
+use Rattle.std.specs.shelf.Lists.{sumBy, All as Each}
+use Rattle.std.proofs.shelf.Sums.{sumBy-le, sumBy-more, sumBy-take-le}
 use Rattle.std.proofs.shelf.Ways.{tells, eqb-tells}
-use Rattle.measures.specs.Amounts.{amount}
-use Rattle.measures.specs.declared.Fen.{Fen}
-use Rattle.session.specs.Dues.{noFen, dueIn}
-use Rattle.session.specs.Lines.{lotsHit, dueOf, dueTo}
+use Rattle.session.specs.Lines.{own, ofRow}
 use Rattle.session.specs.declared.lines.Line.{Line}
-use Rattle.session.specs.declared.lines.Struck.{Struck}
 
--- a line is due to its own row
-pub due-here : (margin : ℕ) (which : Struck) (l : Line) → dueOf margin which (l .row) l ≡ amount margin (lotsHit which l) (l .price .0)
-due-here margin which l = grind (arith, tells)
+-- a line counts for its own row
+pub own-here : (f : Line → ℕ) (l : Line) → own f (l .row) l ≡ f l
+own-here f l = grind (arith, tells)
 
 -- one line more is counted at its row, and nowhere else
-pub dues-more : (margin : ℕ) (which : Struck) (ls : List Line) (i : ℕ) (d : Line) (ds : List Fen) (v : Fen)
-    → i < length ls → getD ls i d .row < length ds → v .0 ≡ dueIn ds (getD ls i d .row) + amount margin (lotsHit which (getD ls i d)) (getD ls i d .price .0)
-    → ((k : ℕ) → k < length ds → dueIn ds k ≡ dueTo margin which (take i ls) k)
-    → (k : ℕ) → k < length (set ds (getD ls i d .row) v) → dueIn (set ds (getD ls i d .row) v) k ≡ dueTo margin which (take (i + 1) ls) k
-dues-more margin which ls i d ds v h w s inv k b′ =
-    let b : k < length ds = omega (arith, length-set ds (getD ls i d .row) v) in
+pub row-more : {X : Type 0} (out : X → ℕ) (none : X) (f : Line → ℕ) (ls : List Line) (i : ℕ) (d : Line) (xs : List X) (v : X)
+    → i < length ls → getD ls i d .row < length xs → out v ≡ out (getD xs (getD ls i d .row) none) + f (getD ls i d)
+    → ((k : ℕ) → k < length xs → out (getD xs k none) ≡ ofRow f (take i ls) k)
+    → (k : ℕ) → k < length (set xs (getD ls i d .row) v) → out (getD (set xs (getD ls i d .row) v) k none) ≡ ofRow f (take (i + 1) ls) k
+row-more out none f ls i d xs v h w s inv k b′ =
+    let b : k < length xs = omega (arith, length-set xs (getD ls i d .row) v) in
     let l : Line = getD ls i d in
     ⊎-elim
     (λ (p : (eqb (l .row) k ≡ true) × (l .row ≡ k)).
-    let P : ℕ → Type 0 = λ j. dueIn (set ds (l .row) v) j ≡ dueTo margin which (take (i + 1) ls) j in
-    subst P (p .1) (ap (λ (f : Fen). f .0) (getD-set-same ds (l .row) v noFen w) ∙ omega (arith, s, inv (l .row) w, due-here margin which l, sumBy-more (dueOf margin which (l .row)) ls i d h)))
+    let P : ℕ → Type 0 = λ j. out (getD (set xs (l .row) v) j none) ≡ ofRow f (take (i + 1) ls) j in
+    subst P (p .1) (ap out (getD-set-same xs (l .row) v none w) ∙ omega (arith, s, inv (l .row) w, own-here f l, sumBy-more (own f (l .row)) ls i d h)))
     (λ (p : (eqb (l .row) k ≡ false) × (l .row ≡ k → ⊥)).
     let ne : k ≢ l .row = λ q. p .1 (sym q) in
-    let z : dueOf margin which k l ≡ 0 = ap (λ b. cond b (amount margin (lotsHit which l) (l .price .0)) 0) (p .0) in
-    ap (λ (f : Fen). f .0) (getD-set-other ds (l .row) k v noFen ne) ∙ omega (arith, inv k b, z, sumBy-more (dueOf margin which k) ls i d h))
+    let z : own f k l ≡ 0 = ap (λ b. cond b (f l) 0) (p .0) in
+    ap out (getD-set-other xs (l .row) k v none ne) ∙ omega (arith, inv k b, z, sumBy-more (own f k) ls i d h))
     (eqb-tells (l .row) k)
+
+own-all : (f : Line → ℕ) (m row : ℕ) (ls : List Line) → Each (λ l. f l ≤ m) ls → Each (λ l. own f row l ≤ m) ls
+own-all f m row [] h = tt
+own-all f m row (l ∷ ls) h = let k : f l ≤ m = h .0 in
+    (elim (eqb (l .row) row) as (λ b. cond b (f l) 0 ≤ m) [ true ↦ k | false ↦ omega arith ], own-all f m row ls (h .1))
+
+-- a row has at most what all lines could have
+pub row-le : (f : Line → ℕ) (m : ℕ) (ls : List Line) (row : ℕ) → Each (λ l. f l ≤ m) ls → ofRow f ls row ≤ length ls * m
+row-le f m ls row h = sumBy-le (own f row) m ls (own-all f m row ls h)
+
+pub row-front-le : (f : Line → ℕ) (m : ℕ) (ls : List Line) (row i : ℕ) → Each (λ l. f l ≤ m) ls → ofRow f (take i ls) row ≤ length ls * m
+row-front-le f m ls row i h = omega (arith, sumBy-take-le (own f row) ls i, row-le f m ls row h)
+
+-- with one line more, too
+pub row-next-le : (f : Line → ℕ) (m : ℕ) (ls : List Line) (i : ℕ) (d : Line) → Each (λ l. f l ≤ m) ls → i < length ls → ofRow f (take i ls) (getD ls i d .row) + f (getD ls i d) ≤ length ls * m
+row-next-le f m ls i d h k = let row : ℕ = getD ls i d .row in
+    omega (arith, own-here f (getD ls i d), sumBy-more (own f row) ls i d k, sumBy-take-le (own f row) ls (i + 1), row-le f m ls row h)

@@ -6,7 +6,7 @@ use lib.Dec.{leb, ltb, eqb}
 use lib.ListN.{length, getD, take, set}
 use native.Mathlib.Omega.{arith}
 use Rattle.std.specs.shelf.Lists.{sumBy, All as Each}
-use Rattle.std.proofs.shelf.Sums.{sumBy-le, sumBy-push, sumBy-cons, sumBy-more, sumBy-take-le, sumBy-set, getD-le-sumBy}
+use Rattle.std.proofs.shelf.Sums.{sumBy-le, sumBy-push, sumBy-cons, sumBy-set, getD-le-sumBy}
 use Rattle.std.proofs.shelf.Elements.{all-getD}
 use Rattle.std.proofs.shelf.Bits.{mul-le}
 use Rattle.std.proofs.shelf.Tests.{and-parts, and-from}
@@ -16,7 +16,7 @@ use Rattle.session.specs.declared.lines.Side.{Side}
 use Rattle.session.specs.declared.lines.Side.the-variants.{Buy, Sell}
 use Rattle.session.specs.declared.lines.Struck.{Struck}
 use Rattle.session.specs.declared.lines.Struck.the-variants.{Only, All}
-use Rattle.session.specs.Lines.{sameSide, hits, lotsOn, lotsHit, standing, lawfulLine, lawful, struck, dueOf, dueTo, reduced, noLine}
+use Rattle.session.specs.Lines.{sameSide, hits, lotsOn, lotsHit, standing, lawfulLine, lawful, struck, lineDue, reduced, noLine}
 
 pub line-lots : (n : ℕ) (l : Line) → lawfulLine n l ≡ true → l .lots .0 ≤ 40000
 line-lots n l h = grind (arith, tells)
@@ -25,7 +25,7 @@ pub lots-on-le : (n : ℕ) (s : Side) (l : Line) → lawfulLine n l ≡ true →
 lots-on-le n s l h = let k : l .lots .0 ≤ 40000 = line-lots n l h in
     elim (sameSide (l .side) s) as (λ b. cond b (l .lots .0) 0 ≤ 40000) [ true ↦ k | false ↦ omega arith ]
 
-lots-all : (n : ℕ) (s : Side) (ls : List Line) → lawful n ls ≡ true → Each (λ l. lotsOn s l ≤ 40000) ls
+pub lots-all : (n : ℕ) (s : Side) (ls : List Line) → lawful n ls ≡ true → Each (λ l. lotsOn s l ≤ 40000) ls
 lots-all n s [] h = tt
 lots-all n s (l ∷ ls) h = let p = and-parts (lawfulLine n l) (lawful n ls) h in (lots-on-le n s l (p .0), lots-all n s ls (p .1))
 
@@ -81,27 +81,20 @@ lots-hit-le : (n : ℕ) (k : Struck) (l : Line) → lawfulLine n l ≡ true → 
 lots-hit-le n k l h = let e : l .lots .0 ≤ 40000 = line-lots n l h in
     elim (hits k (l .side)) as (λ b. cond b (l .lots .0) 0 ≤ 40000) [ true ↦ e | false ↦ omega arith ]
 
-due-of-le : (n margin : ℕ) (s : Struck) (a : ℕ) (l : Line) → margin ≤ 1500 → lawfulLine n l ≡ true → dueOf margin s a l ≤ 600000000000000
-due-of-le n margin s a l m h =
+line-due-le : (n margin : ℕ) (s : Struck) (l : Line) → margin ≤ 1500 → lawfulLine n l ≡ true → lineDue margin s l ≤ 600000000000000
+line-due-le n margin s l m h =
     let x : lotsHit s l * l .price .0 ≤ 40000 * 10000000 = mul-le (lotsHit s l) (l .price .0) 40000 10000000 (lots-hit-le n s l h) (line-price n l h) in
-    let y : margin * (lotsHit s l * l .price .0) ≤ 600000000000000 = mul-le margin (lotsHit s l * l .price .0) 1500 400000000000 m x in
-    elim (eqb (l .row) a) as (λ b. cond b (margin * (lotsHit s l * l .price .0)) 0 ≤ 600000000000000) [ true ↦ y | false ↦ omega arith ]
+    mul-le margin (lotsHit s l * l .price .0) 1500 400000000000 m x
 
-due-all : (n margin : ℕ) (s : Struck) (a : ℕ) → margin ≤ 1500 → (ls : List Line) → lawful n ls ≡ true → Each (λ l. dueOf margin s a l ≤ 600000000000000) ls
-due-all n margin s a m [] h = tt
-due-all n margin s a m (l ∷ ls) h = let p = and-parts (lawfulLine n l) (lawful n ls) h in (due-of-le n margin s a l m (p .0), due-all n margin s a m ls (p .1))
-
-pub due-le : (n margin : ℕ) (s : Struck) (ls : List Line) (a : ℕ) → margin ≤ 1500 → lawful n ls ≡ true → dueTo margin s ls a ≤ length ls * 600000000000000
-due-le n margin s ls a m h = sumBy-le (dueOf margin s a) 600000000000000 ls (due-all n margin s a m ls h)
+pub dues-all : (n margin : ℕ) (s : Struck) → margin ≤ 1500 → (ls : List Line) → lawful n ls ≡ true → Each (λ l. lineDue margin s l ≤ 600000000000000) ls
+dues-all n margin s m [] h = tt
+dues-all n margin s m (l ∷ ls) h = let p = and-parts (lawfulLine n l) (lawful n ls) h in (line-due-le n margin s l m (p .0), dues-all n margin s m ls (p .1))
 
 pub lots-at : (n : ℕ) (ls : List Line) (i : ℕ) (d : Line) → lawful n ls ≡ true → i < length ls → getD ls i d .lots .0 ≤ 40000
 lots-at n ls i d h k = line-lots n (getD ls i d) (lawful-at n ls i d h k)
 
 pub price-at : (n : ℕ) (ls : List Line) (i : ℕ) (d : Line) → lawful n ls ≡ true → i < length ls → getD ls i d .price .0 ≤ 10000000
 price-at n ls i d h k = line-price n (getD ls i d) (lawful-at n ls i d h k)
-
-pub due-more : (n margin : ℕ) (s : Struck) (ls : List Line) (a i : ℕ) (d : Line) → margin ≤ 1500 → lawful n ls ≡ true → length ls ≤ 4096 → i < length ls → sumBy (dueOf margin s a) (take i ls) + dueOf margin s a (getD ls i d) ≤ 2457600000000000000
-due-more n margin s ls a i d m h k l = omega (arith, sumBy-more (dueOf margin s a) ls i d l, sumBy-take-le (dueOf margin s a) ls (i + 1), due-le n margin s ls a m h)
 
 pub standing-set : (s : Side) (ls : List Line) (i : ℕ) (l d : Line) → i < length ls → standing s (set ls i l) ≡ (standing s ls - lotsOn s (getD ls i d)) + lotsOn s l
 standing-set s ls i l d h = omega (arith, sumBy-set (lotsOn s) ls i l d h, getD-le-sumBy (lotsOn s) ls i d h)

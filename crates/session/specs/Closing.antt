@@ -1,7 +1,6 @@
 -- The end of a period.
 use Prim.Native.Nat.{ℕ, _+_}
 use mathlib.Core.Bool.{Bool, cond, _||_}
-use mathlib.Core.List.{List}
 use lib.Dec.{leb, ltb, eqb}
 use Rattle.std.specs.declared.option.Option.{Option}
 use Rattle.std.specs.declared.option.Option.the-variants.{Some, None}
@@ -11,11 +10,11 @@ use Rattle.session.specs.Gates.{Check, admitted, ended}
 use Rattle.session.specs.Lines.{imbalance, excess}
 use Rattle.session.specs.Moves.{upFor, moveFor, movedPrice, struckBy}
 use Rattle.session.specs.Participants.{memberCount}
+use Rattle.session.specs.Sheets.{fillsOf}
 use Rattle.session.specs.Stages.{isMarket, isSupplementary}
 use Rattle.session.specs.State.{State, Outcome, thenOk, after, ofBook, withPeriod, withFills, turned}
 use Rattle.session.specs.Striking.{strikeCheck, struckLines, struckAccounts}
 use Rattle.session.specs.declared.answers.Standing.{Standing}
-use Rattle.session.specs.declared.fills.Fill.{Fill}
 use Rattle.session.specs.declared.lines.Side.{Side}
 use Rattle.session.specs.declared.periods.Move.{Move}
 use Rattle.session.specs.declared.periods.Period.{Period}
@@ -43,15 +42,20 @@ module _ {P : Type 0} where
   abbrev pub closeMove : (ℕ → ℕ) → State P → Move
   closeMove step s = moveFor (step (imbalance (s .lines))) (upFor (excess (s .lines))) (s .period .last)
 
+  -- the policy, as it stands, shares the excess among the Fixing Members
+  abbrev pub sharesOf : (P → ℕ → ℕ → ℕ → ℕ) → State P → ℕ → ℕ
+  sharesOf share s = share (s .policy) (memberCount (s .rows)) (imbalance (s .lines))
+
   -- the fix: the sheet is kept, and then the policy is told of members and excess
-  abbrev pub fixed : (P → ℕ → ℕ → P) → List Fill → State P → ℕ → State P
-  fixed told fills s time = withPeriod (withFills s fills (told (s .policy) (memberCount (s .rows)) (imbalance (s .lines)))) (entered (s .period) Fixed time)
+  abbrev pub fixed : (P → ℕ → ℕ → ℕ → ℕ) → (P → ℕ → ℕ → P) → State P → ℕ → State P
+  fixed share told s time =
+      withPeriod (withFills s (fillsOf (sharesOf share s) (s .rows) (s .lines)) (told (s .policy) (memberCount (s .rows)) (imbalance (s .lines)))) (entered (s .period) Fixed time)
 
   -- a market period that ends level fixes the price
-  abbrev pub marketOutcome : (P → ℕ → ℕ → P) → List Fill → State P → Accounts → ℕ → Outcome P Standing
-  marketOutcome told fills s m time =
+  abbrev pub marketOutcome : (P → ℕ → ℕ → ℕ → ℕ) → (P → ℕ → ℕ → P) → State P → Accounts → ℕ → Outcome P Standing
+  marketOutcome share told s m time =
       cond (eqb (imbalance (s .lines)) 0)
-      (turned (fixed told fills s time) m)
+      (turned (fixed share told s time) m)
       (turned (withPeriod s (supplemented (s .period) (excess (s .lines)) time)) m)
 
   -- a move strikes the side of the excess, and opens the next round
@@ -69,13 +73,13 @@ module _ {P : Type 0} where
       (turned (withPeriod s (entered (s .period) Halted time)) m)
 
   -- an imbalance within the threshold fixes the price; any other moves it
-  abbrev pub supplementaryOutcome : ℕ → ℕ → (ℕ → ℕ) → (P → ℕ → ℕ → P) → List Fill → State P → Accounts → ℕ → Outcome P Standing
-  supplementaryOutcome margin threshold step told fills s m time =
+  abbrev pub supplementaryOutcome : ℕ → ℕ → (ℕ → ℕ) → (P → ℕ → ℕ → ℕ → ℕ) → (P → ℕ → ℕ → P) → State P → Accounts → ℕ → Outcome P Standing
+  supplementaryOutcome margin threshold step share told s m time =
       cond (leb (imbalance (s .lines)) threshold)
-      (turned (fixed told fills s time) m)
+      (turned (fixed share told s time) m)
       (moveOutcome margin s m time (closeMove step s) (movedPrice (s .period .price .0) (closeMove step s)))
 
-  abbrev pub closeOutcome : ℕ → ℕ → (ℕ → ℕ) → (P → ℕ → ℕ → P) → List Fill → State P → Accounts → ℕ → Outcome P Standing
-  closeOutcome margin threshold step told fills s m time =
+  abbrev pub closeOutcome : ℕ → ℕ → (ℕ → ℕ) → (P → ℕ → ℕ → ℕ → ℕ) → (P → ℕ → ℕ → P) → State P → Accounts → ℕ → Outcome P Standing
+  closeOutcome margin threshold step share told s m time =
       after (closeCheck s time) s m
-      (cond (isMarket (s .period .stage)) (marketOutcome told fills s m time) (supplementaryOutcome margin threshold step told fills s m time))
+      (cond (isMarket (s .period .stage)) (marketOutcome share told s m time) (supplementaryOutcome margin threshold step share told s m time))

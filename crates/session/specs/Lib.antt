@@ -13,6 +13,7 @@ pub mod Beginning
 pub mod Dues
 pub mod Striking
 pub mod Moves
+pub mod Sheets
 pub mod Closing
 pub mod Measures
 pub mod Orders

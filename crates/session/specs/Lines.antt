@@ -57,12 +57,21 @@ struck k l = record { row = l .row; side = l .side; lots = record { 0 = cond (hi
 abbrev pub lotsHit : Struck → Line → ℕ
 lotsHit k l = cond (hits k (l .side)) (l .lots .0) 0
 
--- what striking releases of one line to an account: the margin of its lots at the price they were tendered at
-abbrev pub dueOf : ℕ → Struck → ℕ → Line → ℕ
-dueOf margin k account l = cond (eqb (l .row) account) (amount margin (lotsHit k l) (l .price .0)) 0
+-- what a row has of a line: a figure of its own, nothing of another's
+abbrev pub own : (Line → ℕ) → ℕ → Line → ℕ
+own f row l = cond (eqb (l .row) row) (f l) 0
 
+-- a figure summed over the lines of a row
+abbrev pub ofRow : (Line → ℕ) → List Line → ℕ → ℕ
+ofRow f ls row = sumBy (own f row) ls
+
+-- what striking releases of one line: the margin of its lots at the price they were tendered at
+abbrev pub lineDue : ℕ → Struck → Line → ℕ
+lineDue margin k l = amount margin (lotsHit k l) (l .price .0)
+
+-- what striking releases to an account
 abbrev pub dueTo : ℕ → Struck → List Line → ℕ → ℕ
-dueTo margin k ls account = sumBy (dueOf margin k account) ls
+dueTo margin k ls account = ofRow (lineDue margin k) ls account
 
 abbrev pub noLine : Line
 noLine = record { row = 0; side = Buy; lots = record { 0 = 0 }; price = record { 0 = 0 }; round = 0 }

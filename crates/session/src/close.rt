@@ -59,7 +59,7 @@ impl<C: FixingContract, P: SharingPolicy> Session<C, P> {
 
     fn close_market(&mut self, time: u32) -> Standing
         requires { ⌜ time ≤ 86399999 ⌝ }
-        ensures { λ r. ⌜ ((m : Accounts) → came (Ok r) (view (now (self .exit))) m ≡ marketOutcome (P·SharingPolicy .told) (now (self .exit) .fills) (view (now (self .entry))) m time) ⌝ }
+        ensures { λ r. ⌜ ((m : Accounts) → came (Ok r) (view (now (self .exit))) m ≡ marketOutcome (P·SharingPolicy .share) (P·SharingPolicy .told) (view (now (self .entry))) m time) ⌝ }
     {
         if self.table.imbalance().0 == 0 {
             self.fix(time);
@@ -124,7 +124,7 @@ impl<C: FixingContract, P: SharingPolicy> Session<C, P> {
         time: u32,
     ) -> Result<Standing, SessionFault>
         requires { ⌜ time ≤ 86399999 ⌝ }
-        ensures outcome { λ r. ⌜ came r (view (now (self .exit))) (B·MarginBook .means (now (book .exit))) ≡ supplementaryOutcome (C·QuotedContract .margin) (C·FixingContract .threshold) (C·FixingContract .step) (P·SharingPolicy .told) (now (self .exit) .fills) (view (now (self .entry))) (B·MarginBook .means (now (book .entry))) time ⌝ }
+        ensures outcome { λ r. ⌜ came r (view (now (self .exit))) (B·MarginBook .means (now (book .exit))) ≡ supplementaryOutcome (C·QuotedContract .margin) (C·FixingContract .threshold) (C·FixingContract .step) (P·SharingPolicy .share) (P·SharingPolicy .told) (view (now (self .entry))) (B·MarginBook .means (now (book .entry))) time ⌝ }
         ensures kept { λ r. ⌜ refused r (λ _. (view (now (self .exit)) ≡ view (now (self .entry))) × (B·MarginBook .means (now (book .exit)) ≡ B·MarginBook .means (now (book .entry)))) ⌝ }
     {
         if self.table.imbalance().0 <= C::threshold_lots().0 {
@@ -140,7 +140,7 @@ impl<C: FixingContract, P: SharingPolicy> Session<C, P> {
         book: &mut B,
         time: u32,
     ) -> Result<Standing, SessionFault>
-        ensures outcome { λ r. ⌜ came r (view (now (self .exit))) (B·MarginBook .means (now (book .exit))) ≡ closeOutcome (C·QuotedContract .margin) (C·FixingContract .threshold) (C·FixingContract .step) (P·SharingPolicy .told) (now (self .exit) .fills) (view (now (self .entry))) (B·MarginBook .means (now (book .entry))) time ⌝ }
+        ensures outcome { λ r. ⌜ came r (view (now (self .exit))) (B·MarginBook .means (now (book .exit))) ≡ closeOutcome (C·QuotedContract .margin) (C·FixingContract .threshold) (C·FixingContract .step) (P·SharingPolicy .share) (P·SharingPolicy .told) (view (now (self .entry))) (B·MarginBook .means (now (book .entry))) time ⌝ }
         ensures kept { λ r. ⌜ refused r (λ _. (view (now (self .exit)) ≡ view (now (self .entry))) × (B·MarginBook .means (now (book .exit)) ≡ B·MarginBook .means (now (book .entry)))) ⌝ }
     {
         self.check_close(time)?;

@@ -7,6 +7,7 @@ ghost use lib.ListN.{length, getD};
 ghost use Rattle.std.specs.Of.Vec.{vec-items, vec-len};
 ghost use Rattle.std.specs.Vec.{made, refused};
 ghost use Rattle.measures.specs.Amounts.{amount};
+ghost use Rattle.books.specs.Accounts.{releasedAt};
 ghost use Rattle.session.specs.Dues.{dueIn};
 ghost use Rattle.session.specs.Lines.{lawful, lotsHit, dueTo};
 ghost use Rattle.session.specs.State.{view, came};
@@ -83,14 +84,25 @@ fn check_dues<B: MarginBook>(book: &B, dues: &[Fen], rows: usize) -> Result<(), 
     Ok(())
 }
 
-/// Releases to the account of each of the rows what it is due. The book was asked for all of it before, so it refuses none.
+/// Releases to an account what it is due; nothing due is not asked for.
+fn give_back<B: MarginBook>(book: &mut B, account: u32, due: Fen)
+    ensures { λ _. ⌜ B·MarginBook .means (now (book .exit)) ≡ releasedAt (B·MarginBook .means (now (book .entry))) account (due .0) ⌝ }
+{
+    if due.0 == 0 {
+        return;
+    }
+    // the book was asked for all that is due before, so it refuses nothing
+    let _ = book.release(account, due);
+}
+
+/// Releases to the account of each of the rows what it is due.
 fn release_dues<B: MarginBook>(book: &mut B, dues: &[Fen], rows: usize)
     requires few { ⌜ rows ≤ 256 ⌝ }
     requires within { ⌜ rows ≤ length (now dues) ⌝ }
     ensures { λ _. ⌜ B·MarginBook .means (now (book .exit)) ≡ releasedAll (B·MarginBook .means (now (book .entry))) (dueIn (now (dues .entry))) rows ⌝ }
 {
     for row in 0..rows {
-        let _ = book.release(row as u32, dues[row]);
+        give_back(book, row as u32, dues[row]);
     }
 }
 

@@ -11,4 +11,4 @@ loop-row-holds g c = search (needs, released-none)
 pub loop-row-again : need.loop-row-again
 loop-row-again g c =
     let m : Accounts = g .B·MarginBook .means (c .args .book .now) in
-    c .release .ensures .after ∙ (ap (λ (x : Accounts). releasedAt x (c .loop-row .row) (dueIn (c .args .dues .now) (c .loop-row .row))) (c .loop-row .inv) ∙ released-more m (dueIn (c .args .dues .now)) (c .loop-row .row))
+    c .give-back .ensures ∙ (ap (λ (x : Accounts). releasedAt x (c .loop-row .row) (dueIn (c .args .dues .now) (c .loop-row .row))) (c .loop-row .inv) ∙ released-more m (dueIn (c .args .dues .now)) (c .loop-row .row))
