@@ -59,7 +59,10 @@ impl<C, P, B> Engine<C, P, B> {
         limit: usize,
         policy: P,
         book: B,
-    ) -> Result<Engine<C, P, B>, Returned<P, B>> {
+    ) -> Result<Engine<C, P, B>, Returned<P, B>>
+        ensures opened { λ r. ⌜ made r (λ e. (view (e .session) ≡ opened (R·Roster .listed (now (roster .entry))) time previous limit policy) × (e .book ≡ book)) ⌝ }
+        ensures refused { λ r. ⌜ refused r (λ e. (e .policy ≡ policy) × (e .book ≡ book)) ⌝ }
+    {
         match Session::open(heap, time, previous, roster, limit, policy) {
             Ok(session) => Ok(Engine {
                 session,
