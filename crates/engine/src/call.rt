@@ -1,6 +1,7 @@
 //! Answering a call.
 
 ghost use mathlib.Core.Path.{_≡_};
+ghost use Rattle.std.specs.Options.{Cases};
 ghost use Rattle.std.specs.Vec.{made, refused};
 ghost use Rattle.session.specs.Opening.{opened};
 ghost use Rattle.session.specs.State.{view, standingAt};
@@ -188,21 +189,15 @@ impl<C: FixingContract, P: SharingPolicy, B: MarginBook> Engine<C, P, B> {
     }
 
     /// Announces the Offered Price at the last accepted time, if the session is suspended.
-    pub fn announce_if_suspended(&mut self) -> Option<Result<Standing, SessionFault>> {
-        match std::mem::replace(&mut self.held, Held::Nothing) {
-            Held::Nothing => None,
-            Held::Order(order) => {
-                let time = self.session.clock();
-                let price = self.session.standing().price;
-                match order.announce(&mut self.session, &mut self.book, time, price) {
-                    Ok(standing) => Some(Ok(standing)),
-                    Err(RefusedMeasure { fault, order }) => {
-                        self.keep(order);
-                        Some(Err(fault))
-                    }
-                }
-            }
+    pub fn announce_if_suspended(&mut self) -> Option<Result<Standing, SessionFault>>
+        ensures { λ r. ⌜ Cases r ((view (now (self .exit) .session) ≡ view (now (self .entry) .session)) × (now (self .entry) .held ≡ Nothing)) (λ a. refused a (λ _. view (now (self .exit) .session) ≡ view (now (self .entry) .session))) ⌝ }
+    {
+        if let Held::Nothing = &self.held {
+            return None;
         }
+        let time = self.session.clock();
+        let price = self.standing().price;
+        Some(self.announce(time, price))
     }
 }
 

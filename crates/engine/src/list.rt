@@ -1,5 +1,15 @@
 //! Answering a whole list of words, from the opening to the last word.
 
+ghost use mathlib.Core.List.{_∷_, []};
+ghost use mathlib.Core.Path.{_≡_};
+ghost use Prim.Native.Nat.{_<_};
+ghost use lib.ListN.{length};
+ghost use Rattle.std.specs.Of.Vec.{vec-items};
+ghost use Rattle.std.specs.Vec.{made};
+ghost use Rattle.std.specs.declared.option.Option.the-variants.{None};
+ghost use Rattle.std.specs.declared.result.Result.the-variants.{Err};
+ghost use Rattle.messages.specs.Answers.{answerWords};
+ghost use Rattle.messages.specs.declared.faults.MessageFault.the-variants.{Misfit};
 use crate::call::Returned;
 use crate::call::misplaced;
 use crate::engine::Engine;
@@ -194,7 +204,9 @@ fn sheet_of<C, P, B>(heap: Global, engine: &Engine<C, P, B>) -> Result<Vec<u32>,
 }
 
 /// Answers a whole list of words.
-pub fn answer_list(heap: Global, words: &[u32]) -> Result<Transcript, AllocError> {
+pub fn answer_list(heap: Global, words: &[u32]) -> Result<Transcript, AllocError>
+    ensures too_long { λ r. ⌜ (16384 < length (now (words .entry)) → made r (λ t. (vec-items (t .answers) ≡ answerWords (Err (Misfit 16384)) None ∷ []) × (vec-items (t .sheet) ≡ []))) ⌝ }
+{
     let mut answers = Vec::with_capacity(heap, words.len().saturating_add(1))?;
     let mut reader = match Reader::over(words) {
         Ok(reader) => reader,
