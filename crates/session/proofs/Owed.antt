@@ -7,7 +7,7 @@ use lib.Dec.{eqb}
 use lib.ListN.{length, getD, set, take, length-set}
 use lib.Seq.{getD-set-same, getD-set-other}
 use native.Mathlib.Omega.{arith}
-use Rattle.std.specs.shelf.Lists.{sumBy, All as Each}
+use Rattle.std.specs.shelf.Lists.{All as Each}
 use Rattle.std.proofs.shelf.Sums.{sumBy-le, sumBy-more, sumBy-take-le}
 use Rattle.std.proofs.shelf.Ways.{tells, eqb-tells}
 use Rattle.session.specs.Lines.{own, ofRow}

@@ -1,27 +1,22 @@
-use Prim.Native.Nat.{ℕ, zero, suc, _+_, _≤_, _<_}
+use Prim.Native.Nat.{ℕ, zero, suc, _+_, _<_}
 use mathlib.Core.Bool.{Bool, true, false, cond}
 use mathlib.Core.List.{List, [], _∷_, _++_, map}
 use mathlib.Core.Logic.{_⊎_, ⊎-elim}
-use mathlib.Core.Path.{_≡_, refl, sym, ap, subst, _∙_}
+use mathlib.Core.Path.{_≡_, ap, subst, _∙_}
 use lib.Dec.{eqb}
 use native.Mathlib.Numerals.{add-one}
 use native.Mathlib.Omega.{arith}
 use Rattle.std.proofs.shelf.Counted.{map-counting-more}
 use Rattle.std.proofs.shelf.Sums.{sumBy-push}
 use Rattle.std.proofs.shelf.Ways.{tells, eqb-tells}
-use Rattle.std.specs.Options.{isSome}
 use Rattle.std.specs.shelf.Lists.{countBy}
-use Rattle.std.specs.declared.option.Option.{Option}
-use Rattle.std.specs.declared.option.Option.the-variants.{Some, None}
-use Rattle.std.specs.declared.result.Result.{Result}
 use Rattle.std.specs.declared.result.Result.the-variants.{Ok, Err}
 use Rattle.session.specs.Gates.{Check}
-use Rattle.session.specs.Opening.{participantOf, participantAt, rowFits, rowsFit, copied}
+use Rattle.session.specs.Opening.{participantAt, rowFits, rowsFit, copied}
 use Rattle.session.specs.Participants.{memberCount, seatCount, isFixing, isSeat}
 use Rattle.session.specs.State.{thenOk}
 use Rattle.session.specs.declared.faults.SessionFault.{SessionFault}
 use Rattle.session.specs.declared.participants.Listed.{Listed}
-use Rattle.session.specs.declared.participants.Participant.{Participant}
 
 pub rows-more : (ls : List Listed) (k : ℕ) → rowsFit ls k ≡ Ok tt → rowFits ls k ≡ Ok tt → rowsFit ls (k + 1) ≡ Ok tt
 rows-more ls k h e = rw add-one (ap (λ (c : Check). thenOk c (rowFits ls k)) h ∙ e)

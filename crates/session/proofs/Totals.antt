@@ -1,9 +1,9 @@
 use Prim.Native.Nat.{ℕ, zero, suc, _+_, _-_, _*_, _≤_, _<_}
-use mathlib.Core.Bool.{Bool, true, false, cond, _&&_}
+use mathlib.Core.Bool.{true, false, cond, _&&_}
 use mathlib.Core.List.{List, [], _∷_, _++_, map}
-use mathlib.Core.Path.{_≡_, refl, sym, _∙_, ap, subst}
-use lib.Dec.{leb, ltb, eqb}
-use lib.ListN.{length, getD, take, set}
+use mathlib.Core.Path.{_≡_, refl, sym, _∙_, subst}
+use lib.Dec.{leb, ltb}
+use lib.ListN.{length, getD, set}
 use native.Mathlib.Omega.{arith}
 use Rattle.std.specs.shelf.Lists.{sumBy, All as Each}
 use Rattle.std.proofs.shelf.Sums.{sumBy-le, sumBy-push, sumBy-cons, sumBy-set, getD-le-sumBy}
@@ -16,7 +16,7 @@ use Rattle.session.specs.declared.lines.Side.{Side}
 use Rattle.session.specs.declared.lines.Side.the-variants.{Buy, Sell}
 use Rattle.session.specs.declared.lines.Struck.{Struck}
 use Rattle.session.specs.declared.lines.Struck.the-variants.{Only, All}
-use Rattle.session.specs.Lines.{sameSide, hits, lotsOn, lotsHit, standing, lawfulLine, lawful, struck, lineDue, reduced, noLine}
+use Rattle.session.specs.Lines.{sameSide, hits, lotsOn, lotsHit, standing, lawfulLine, lawful, struck, lineDue, reduced}
 
 pub line-lots : (n : ℕ) (l : Line) → lawfulLine n l ≡ true → l .lots .0 ≤ 40000
 line-lots n l h = grind (arith, tells)

@@ -1,7 +1,7 @@
 -- What stands, and what striking leaves and releases.
-use Prim.Native.Nat.{ℕ, _+_, _-_, _*_, _≤_}
+use Prim.Native.Nat.{ℕ, _-_}
 use mathlib.Core.Bool.{Bool, true, false, cond, _&&_}
-use mathlib.Core.List.{List, [], _∷_, map}
+use mathlib.Core.List.{List, [], _∷_}
 use lib.Dec.{leb, ltb, eqb}
 use Rattle.std.specs.shelf.Lists.{sumBy}
 use Rattle.measures.specs.Amounts.{amount, apart}

@@ -1,9 +1,8 @@
 -- Suspension, and the two measures that end it.
 use Prim.Native.Nat.{ℕ, _+_}
-use mathlib.Core.Bool.{Bool, cond, _||_}
+use mathlib.Core.Bool.{cond, _||_}
 use lib.Dec.{ltb}
 use Rattle.std.specs.declared.option.Option.the-variants.{None}
-use Rattle.std.specs.declared.result.Result.{Result}
 use Rattle.std.specs.declared.result.Result.the-variants.{Ok, Err}
 use Rattle.measures.specs.declared.Ticks.{Ticks}
 use Rattle.books.specs.Accounts.{Accounts}
@@ -13,7 +12,6 @@ use Rattle.session.specs.Stages.{isMarket, isSupplementary, isHalted, isSuspen
 use Rattle.session.specs.State.{State, Outcome, thenOk, after, ofBook, withPeriod, turned}
 use Rattle.session.specs.Striking.{strikeCheck, struckLines, struckAccounts}
 use Rattle.session.specs.declared.answers.Standing.{Standing}
-use Rattle.session.specs.declared.faults.SessionFault.{SessionFault}
 use Rattle.session.specs.declared.faults.SessionFault.the-variants.{LastRound}
 use Rattle.session.specs.declared.lines.Struck.the-variants.{All}
 use Rattle.session.specs.declared.periods.Period.{Period}

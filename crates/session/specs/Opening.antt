@@ -1,9 +1,9 @@
 -- The opening of a session.
 use Prim.Native.Nat.{ℕ, zero, suc, _+_}
 use mathlib.Core.Path.{_≡_}
-use mathlib.Core.Bool.{Bool, true, false, cond, _&&_, _||_}
-use mathlib.Core.List.{List, [], _∷_, map}
-use lib.Dec.{leb, ltb, eqb}
+use mathlib.Core.Bool.{Bool, true, false, cond, _||_}
+use mathlib.Core.List.{List, [], map}
+use lib.Dec.{ltb, eqb}
 use lib.ListN.{length, getD, replicate}
 use Rattle.std.specs.Iters.{counting}
 use Rattle.std.specs.Options.{isSome, valueOr}
@@ -12,10 +12,12 @@ use Rattle.std.specs.declared.option.Option.the-variants.{Some, None}
 use Rattle.std.specs.declared.result.Result.{Result}
 use Rattle.std.specs.declared.result.Result.the-variants.{Ok, Err}
 use Rattle.measures.specs.declared.Ticks.{Ticks}
+use Rattle.sharing.specs.declared.table_order.TableOrder.{TableOrder}
 use Rattle.session.specs.Gates.{Check, priceFits}
 use Rattle.session.specs.Participants.{unlisted, nobody, memberCount}
+use Rattle.session.specs.Sheets.{noFill}
 use Rattle.session.specs.State.{State, thenOk}
-use Rattle.session.specs.declared.fills.Fill.{Fill}
+use Rattle.session.specs.declared.faults.SessionFault.{SessionFault}
 use Rattle.session.specs.declared.faults.SessionFault.the-variants.{Time, Participant as FaultyRow, Participants, LineLimit, Memory}
 use Rattle.session.specs.declared.lines.Side.the-variants.{Buy}
 use Rattle.session.specs.declared.participants.Kind.{Kind}
@@ -100,9 +102,6 @@ openCheck ls time previous limit =
     (thenOk (limitFits limit)
     (rosterCheck ls)))
 
-abbrev pub noFill : Fill
-noFill = record { bought = record { 0 = 0 }; sold = record { 0 = 0 } }
-
 -- a session just opened: no quote, no line, nothing filled
 abbrev pub opened : {P : Type 0} → List Listed → ℕ → Ticks → ℕ → P → State P
 opened ls time previous limit policy = record {
@@ -116,7 +115,18 @@ opened ls time previous limit policy = record {
 }
 
 -- an opening is refused by the first check that fails, and else only for want of memory
+abbrev pub blamed : Check → SessionFault
+blamed (Ok u) = Memory
+blamed (Err f) = f
+
 abbrev pub Refuses : {C P : Type 0} → Check → Result (Session C P) (RefusedOpening P) → Type 0
 Refuses check (Ok s) = check ≡ Ok tt
-Refuses (Ok u) (Err e) = e .fault ≡ Memory
-Refuses (Err f) (Err e) = e .fault ≡ f
+Refuses check (Err e) = e .fault ≡ blamed check
+
+-- an opening with no policy named takes table order, and has none to hand back
+abbrev pub inTableOrder : TableOrder
+inTableOrder = record {}
+
+abbrev pub RefusesPlain : {C : Type 0} → Check → Result (Session C TableOrder) SessionFault → Type 0
+RefusesPlain check (Ok s) = check ≡ Ok tt
+RefusesPlain check (Err e) = e ≡ blamed check

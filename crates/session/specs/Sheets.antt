@@ -2,10 +2,11 @@
 use Prim.Native.Nat.{ℕ, _+_}
 use mathlib.Core.Bool.{cond}
 use mathlib.Core.List.{List, map}
-use lib.ListN.{getD, take}
+use lib.ListN.{length, getD, take}
 use Rattle.std.specs.Iters.{counting}
 use Rattle.session.specs.Lines.{sameSide, other, lotsOn, ofRow, excess}
 use Rattle.session.specs.Participants.{nobody, isFixing, memberCount}
+use Rattle.session.specs.State.{State}
 use Rattle.session.specs.declared.fills.Fill.{Fill}
 use Rattle.session.specs.declared.lines.Line.{Line}
 use Rattle.session.specs.declared.lines.Side.{Side}
@@ -43,3 +44,7 @@ fillOf share rows ls row = record { bought = record { 0 = lotsFilled share rows 
 -- a fill for each of 256 rows: one beyond the table has neither lines nor a share
 unfoldable pub fillsOf : (ℕ → ℕ) → List Participant → List Line → List Fill
 fillsOf share rows ls = map (fillOf share rows ls) (counting 0 256)
+
+-- the fills of the sheet: one for each row of the table
+abbrev pub sheetFills : {P : Type 0} → State P → List Fill
+sheetFills s = take (length (s .rows)) (s .fills)

@@ -1,5 +1,5 @@
 use Prim.Native.Nat.{ℕ}
-use mathlib.Core.Bool.{Bool, true, false, _||_}
+use mathlib.Core.Bool.{Bool}
 use lib.Dec.{eqb}
 use Rattle.session.specs.declared.stages.Stage.{Stage}
 use Rattle.session.specs.declared.stages.Stage.the-variants.{Quoting, Market, Supplementary, Fixed, Announced, Suspended, Halted}

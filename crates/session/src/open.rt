@@ -7,7 +7,7 @@ ghost use lib.ListN.{length, replicate};
 ghost use Rattle.std.specs.Of.Vec.{vec-items, vec-len};
 ghost use Rattle.std.specs.Vec.{made, refused};
 ghost use Rattle.session.specs.Participants.{memberCount, seatCount};
-ghost use Rattle.session.specs.Opening.{kindOf, participantOf, participantAt, carried, rowFits, rowsFit, copied, countsFit, timeFits, limitFits, quotingEnds, openCheck, opened, Refuses};
+ghost use Rattle.session.specs.Opening.{kindOf, participantOf, participantAt, carried, rowFits, rowsFit, copied, countsFit, timeFits, limitFits, quotingEnds, openCheck, opened, Refuses, inTableOrder, RefusesPlain};
 ghost use Rattle.session.specs.State.{view};
 ghost use Rattle.std.specs.declared.option.Option.the-variants.{None};
 use crate::faults::SessionFault;
@@ -316,7 +316,10 @@ impl<C> Session<C, TableOrder> {
         previous: Ticks,
         roster: &R,
         limit: usize,
-    ) -> Result<Session<C, TableOrder>, SessionFault> {
+    ) -> Result<Session<C, TableOrder>, SessionFault>
+        ensures opened { λ r. ⌜ made r (λ s. view s ≡ opened (R·Roster .listed (now (roster .entry))) time previous limit inTableOrder) ⌝ }
+        ensures fault { λ r. ⌜ RefusesPlain (openCheck (R·Roster .listed (now (roster .entry))) time (previous .0) limit) r ⌝ }
+    {
         match Session::open(heap, time, previous, roster, limit, TableOrder) {
             Ok(session) => Ok(session),
             Err(RefusedOpening { fault, policy: _ }) => Err(fault),

@@ -1,7 +1,7 @@
 use native.Mathlib.Omega.{arith}
 use Prim.Native.Nat.{_<_}
 use mathlib.Core.List.{List}
-use mathlib.Core.Path.{_≡_, refl, ap, _∙_}
+use mathlib.Core.Path.{refl, ap, _∙_}
 use lib.ListN.{length, getD, length-set}
 use Rattle.std.proofs.shelf.Lists.{take-all, getD-replicate}
 use Rattle.session.specs.Lines.{noLine, lotsOn, ofRow}

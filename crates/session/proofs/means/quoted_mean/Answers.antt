@@ -1,8 +1,6 @@
 use borrow.Author.Needs.{needs}
 use native.Mathlib.Omega.{arith}
 use Prim.Native.Nat.{_-_, _≤_}
-use mathlib.Core.Path.{_≡_}
-use Rattle.std.proofs.shelf.Ways.{tells}
 use Rattle.session.proofs.Averages.{nearest-le, kept-at}
 use Rattle.session.proofs.means.quoted_mean.Needs as need
 

@@ -1,5 +1,5 @@
 use borrow.Author.Needs.{needs}
-use mathlib.Core.Path.{_≡_, ap, _∙_}
+use mathlib.Core.Path.{ap, _∙_}
 use Rattle.books.specs.Accounts.{Accounts, releasedAt}
 use Rattle.session.specs.Dues.{dueIn}
 use Rattle.session.proofs.Releases.{released-more, released-none}

@@ -1,12 +1,11 @@
 use borrow.Author.Needs.{needs}
 use native.Mathlib.Omega.{arith}
-use Prim.Native.Nat.{ℕ, _+_, _<_}
+use Prim.Native.Nat.{_+_, _<_}
 use mathlib.Core.List.{List}
-use mathlib.Core.Path.{_≡_, refl, sym, ap, _∙_}
+use mathlib.Core.Path.{refl, ap, _∙_}
 use lib.ListN.{length, getD, length-set}
 use Rattle.std.proofs.shelf.Lists.{take-all, getD-replicate}
 use Rattle.measures.specs.declared.Fen.{Fen}
-use Rattle.measures.specs.Amounts.{amount}
 use Rattle.session.specs.Dues.{dueIn, noFen}
 use Rattle.session.specs.Lines.{noLine, lineDue, dueTo}
 use Rattle.session.specs.declared.lines.Line.{Line}

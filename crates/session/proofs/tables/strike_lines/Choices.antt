@@ -1,7 +1,6 @@
 use mathlib.Core.Path.{_≡_}
 use mathlib.Core.List.{map, _++_}
 use lib.ListN.{take, drop}
-use Rattle.std.specs.Of.Vec.{vec-items, vec-cap}
 use Rattle.session.specs.Lines.{struck}
 use Rattle.session.proofs.tables.strike_lines.Given as given
 

@@ -1,6 +1,6 @@
 use borrow.Author.Needs.{needs}
 use native.Mathlib.Omega.{arith}
-use Rattle.std.specs.Of.Vec.{vec-items, vec-len}
+use Rattle.std.specs.Of.Vec.{vec-items}
 use Rattle.session.specs.declared.lines.Side.the-variants.{Buy, Sell}
 use Rattle.session.proofs.Totals.{standing-le, lots-on-le, lawful-push, standing-push}
 use Rattle.session.proofs.table.LineTable.enter.Needs as need
