@@ -42,11 +42,11 @@ part f (suc n) i h =
     (λ (p : (eqb i n ≡ false) × (i ≡ n → ⊥)). let q = p .1 in let k : i < n = omega arith in omega (arith, part f n i k))
     (eqb-tells i n)
 
-either : (b : Bool) → (b ≡ true) ⊎ (b ≡ false)
+pub either : (b : Bool) → (b ≡ true) ⊎ (b ≡ false)
 either true = inl refl
 either false = inr refl
 
-sides : (a b : ℕ) → (a < b) ⊎ (b ≤ a)
+pub sides : (a b : ℕ) → (a < b) ⊎ (b ≤ a)
 sides a b = grind (arith, tells)
 
 -- a share is no more than what is shared
@@ -137,7 +137,7 @@ shared-skip side taker share rows fs₀ fs row none inv k b =
     nought false = refl
 
 -- a row beyond the table has no share
-share-past : (share : ℕ → ℕ) (rows : List Participant) (k : ℕ) → length rows ≤ k → shareOf share rows k ≡ 0
+pub share-past : (share : ℕ → ℕ) (rows : List Participant) (k : ℕ) → length rows ≤ k → shareOf share rows k ≡ 0
 share-past share rows k h = ap (λ (p : Participant). cond (isFixing (p .kind)) (share (placeOf rows k)) 0) (getD-past rows k nobody h)
 
 -- once all rows are passed, each has its share

@@ -4,6 +4,7 @@ use mathlib.Core.Bool.{cond}
 use mathlib.Core.List.{List, map}
 use lib.ListN.{length, getD, take}
 use Rattle.std.specs.Iters.{counting}
+use Rattle.std.specs.shelf.Lists.{sumBy}
 use Rattle.session.specs.Lines.{sameSide, other, lotsOn, ofRow, excess}
 use Rattle.session.specs.Participants.{nobody, isFixing, memberCount}
 use Rattle.session.specs.State.{State}
@@ -44,6 +45,10 @@ fillOf share rows ls row = record { bought = record { 0 = lotsFilled share rows 
 -- a fill for each of 256 rows: one beyond the table has neither lines nor a share
 unfoldable pub fillsOf : (ℕ → ℕ) → List Participant → List Line → List Fill
 fillsOf share rows ls = map (fillOf share rows ls) (counting 0 256)
+
+-- all lots of some fills on a side
+abbrev pub totalOn : Side → List Fill → ℕ
+totalOn side fs = sumBy (filledOn side) fs
 
 -- the fills of the sheet: one for each row of the table
 abbrev pub sheetFills : {P : Type 0} → State P → List Fill
