@@ -2,23 +2,23 @@ use Prim.Native.Nat.{ℕ, zero, suc, _+_, _≤_, _<_}
 use mathlib.Core.Bool.{Bool, true, false, cond}
 use mathlib.Core.List.{List, [], _∷_, map}
 use mathlib.Core.Logic.{_⊎_, ⊎-elim}
-use mathlib.Core.Path.{_≡_, refl, sym, ap, _∙_}
+use mathlib.Core.Path.{_≡_, refl, sym, ap, subst, _∙_}
 use lib.Dec.{ltb}
-use lib.ListN.{length, getD, take}
+use lib.ListN.{length, getD, take, replicate}
 use native.Mathlib.Numerals.{add-one}
 use native.Mathlib.Omega.{arith}
 use Rattle.std.specs.Iters.{counting}
 use Rattle.std.specs.shelf.Lists.{sumBy}
-use Rattle.std.proofs.shelf.Counted.{sumBy-map-counting-more}
+use Rattle.std.proofs.shelf.Counted.{sumBy-map-counting-more, take-map-counting}
 use Rattle.std.proofs.shelf.Lists.{take-all}
 use Rattle.std.proofs.shelf.Sums.{sumBy-cons, countBy-more-yes, countBy-more-no}
 use Rattle.std.proofs.shelf.Tests.{and-parts}
 use Rattle.std.proofs.shelf.Ways.{tells}
 use Rattle.measures.specs.Amounts.{apart}
-use Rattle.sharing.specs.Shares.{below}
+use Rattle.sharing.specs.Shares.{inBounds, below}
 use Rattle.session.specs.Lines.{sameSide, other, lotsOn, own, ofRow, standing, imbalance, excess, lawfulLine, lawful}
 use Rattle.session.specs.Participants.{nobody, isFixing, memberCount}
-use Rattle.session.specs.Sheets.{filledOn, placeOf, shareOf, lotsFilled, fillOf, fillsOf, totalOn}
+use Rattle.session.specs.Sheets.{noFill, filledOn, placeOf, shareOf, lotsFilled, fillOf, fillsOf, Level}
 use Rattle.session.specs.declared.lines.Line.{Line}
 use Rattle.session.specs.declared.lines.Side.{Side}
 use Rattle.session.specs.declared.lines.Side.the-variants.{Buy, Sell}
@@ -102,7 +102,7 @@ balance true buys sells more less = let h = more refl in omega arith
 balance false buys sells more less = let h = less refl in omega arith
 
 level-of : (n : ℕ) (share : ℕ → ℕ) (rows : List Participant) (ls : List Line) → length rows ≤ n → lawful n ls ≡ true → below (memberCount rows) share ≡ imbalance ls
-    → totalOn Buy (map (fillOf share rows ls) (counting 0 n)) ≡ totalOn Sell (map (fillOf share rows ls) (counting 0 n))
+    → Level (map (fillOf share rows ls) (counting 0 n))
 level-of n share rows ls few sound whole =
     below-listed (filledOn Buy) (fillOf share rows ls) n ∙ (total-of n share rows ls Buy few sound whole
     ∙ (balance (ltb (standing Sell ls) (standing Buy ls)) (standing Buy ls) (standing Sell ls) (more (standing Sell ls) (standing Buy ls)) (less (standing Sell ls) (standing Buy ls))
@@ -114,8 +114,17 @@ level-of n share rows ls few sound whole =
     less : (x y : ℕ) → ltb x y ≡ false → y ≤ x
     less x y h = grind (arith, tells)
 
--- as many lots are bought as sold
-pub level : (share : ℕ → ℕ) (rows : List Participant) (ls : List Line) → length rows ≤ 256 → lawful 256 ls ≡ true → below (memberCount rows) share ≡ imbalance ls
-    → totalOn Buy (fillsOf share rows ls) ≡ totalOn Sell (fillsOf share rows ls)
+-- a sheet is level
+pub sheet-level : (n : ℕ) (share : ℕ → ℕ) (rows : List Participant) (ls : List Line) → n ≤ 256 → length rows ≤ n → lawful n ls ≡ true → below (memberCount rows) share ≡ imbalance ls
+    → Level (take n (fillsOf share rows ls))
 unfolding fillsOf
-level share rows ls few sound whole = level-of 256 share rows ls few sound whole
+sheet-level n share rows ls most few sound whole = subst Level (sym (take-map-counting (fillOf share rows ls) 0 256 n most)) (level-of n share rows ls few sound whole)
+
+-- and so is one on which nothing is filled
+pub level-none : (m n : ℕ) → Level (take m (replicate n noFill))
+level-none zero n = refl
+level-none (suc m) zero = refl
+level-none (suc m) (suc n) = level-none m n
+
+pub in-bounds : (n q : ℕ) → 1 ≤ n → n ≤ 32 → q ≤ 163840000 → inBounds n q ≡ true
+in-bounds n q a b c = grind (arith, tells)
