@@ -7,3 +7,4 @@ pub mod Releases
 pub mod Owed
 pub mod Shared
 pub mod Seated
+pub mod Levels

@@ -42,11 +42,11 @@ part f (suc n) i h =
     (λ (p : (eqb i n ≡ false) × (i ≡ n → ⊥)). let q = p .1 in let k : i < n = omega arith in omega (arith, part f n i k))
     (eqb-tells i n)
 
-either : (b : Bool) → (b ≡ true) ⊎ (b ≡ false)
+pub either : (b : Bool) → (b ≡ true) ⊎ (b ≡ false)
 either true = inl refl
 either false = inr refl
 
-sides : (a b : ℕ) → (a < b) ⊎ (b ≤ a)
+pub sides : (a b : ℕ) → (a < b) ⊎ (b ≤ a)
 sides a b = grind (arith, tells)
 
 -- a share is no more than what is shared
@@ -137,7 +137,7 @@ shared-skip side taker share rows fs₀ fs row none inv k b =
     nought false = refl
 
 -- a row beyond the table has no share
-share-past : (share : ℕ → ℕ) (rows : List Participant) (k : ℕ) → length rows ≤ k → shareOf share rows k ≡ 0
+pub share-past : (share : ℕ → ℕ) (rows : List Participant) (k : ℕ) → length rows ≤ k → shareOf share rows k ≡ 0
 share-past share rows k h = ap (λ (p : Participant). cond (isFixing (p .kind)) (share (placeOf rows k)) 0) (getD-past rows k nobody h)
 
 -- once all rows are passed, each has its share
@@ -158,7 +158,8 @@ fill-same f g p q =
     ap (λ n. made n (f .sold .0)) p ∙ ap (made (g .bought .0)) q
 
 -- standing lots first and shares after make the sheet
-pub sheet-made : (share : ℕ → ℕ) (rows : List Participant) (ls : List Line) (fs₀ fs : List Fill) → length fs ≡ 256
+sheet-made : (share : ℕ → ℕ) (rows : List Participant) (ls : List Line) (fs₀ fs : List Fill)
+    → length fs ≡ 256
     → ((side : Side) (k : ℕ) → k < 256 → filledOn side (getD fs₀ k noFill) ≡ ofRow (lotsOn side) ls k)
     → ((side : Side) (k : ℕ) → k < 256 → filledOn side (getD fs k noFill) ≡ filledOn side (getD fs₀ k noFill) + cond (sameSide (other (excess ls)) side) (shareOf share rows k) 0)
     → fs ≡ fillsOf share rows ls
@@ -166,6 +167,24 @@ unfolding fillsOf
 sheet-made share rows ls fs₀ fs h stood shared =
     let at : (side : Side) (k : ℕ) → k < 256 → filledOn side (getD fs k noFill) ≡ lotsFilled share rows ls side k = λ side k b. shared side k b ∙ ap (λ n. n + cond (sameSide (other (excess ls)) side) (shareOf share rows k) 0) (stood side k b) in
     fill-by-all (fillOf share rows ls) fs 256 noFill h (λ k b. fill-same (getD fs k noFill) (fillOf share rows ls k) (at Buy k b) (at Sell k b))
+
+-- the same of a session, by what its fields and calls are known to be
+pub sheet-from : {P : Type 0} (share : P → ℕ → ℕ → ℕ → ℕ) (s : State P) (ls : List Line) (rows : List Participant) (n q : ℕ) (taker : Side) (fs₀ fs : List Fill)
+    → ls ≡ s .lines → rows ≡ s .rows → n ≡ memberCount (s .rows) → q ≡ imbalance (s .lines) → taker ≡ other (excess (s .lines))
+    → length fs ≡ 256
+    → ((side : Side) (k : ℕ) → k < 256 → filledOn side (getD fs₀ k noFill) ≡ ofRow (lotsOn side) ls k)
+    → ((side : Side) (k : ℕ) → k < 256 → filledOn side (getD fs k noFill) ≡ filledOn side (getD fs₀ k noFill) + cond (sameSide taker side) (shareOf (share (s .policy) n q) rows k) 0)
+    → fs ≡ fillsOf (sharesOf share s) (s .rows) (s .lines)
+sheet-from share s ls rows n q taker fs₀ fs l r m e t h stood shared =
+    let F : Side → (ℕ → ℕ) → List Participant → Side → ℕ → ℕ = λ to f rs side k. filledOn side (getD fs₀ k noFill) + cond (sameSide to side) (shareOf f rs k) 0 in
+    let f : ℕ → ℕ → ℕ → ℕ = share (s .policy) in
+    let shares : f n q ≡ sharesOf share s = ap (λ x. f x q) m ∙ ap (f (memberCount (s .rows))) e in
+    sheet-made (sharesOf share s) (s .rows) (s .lines) fs₀ fs h
+    (λ side k b. stood side k b ∙ ap (λ (x : List Line). ofRow (lotsOn side) x k) l)
+    (λ side k b. shared side k b
+    ∙ (ap (λ x. F x (f n q) rows side k) t
+    ∙ (ap (λ x. F (other (excess (s .lines))) x rows side k) shares
+    ∙ ap (λ x. F (other (excess (s .lines))) (sharesOf share s) x side k) r)))
 
 -- the fix, once the sheet is made and the policy told
 pub fixed-from : {P : Type 0} (share : P → ℕ → ℕ → ℕ → ℕ) (told : P → ℕ → ℕ → P) (s : State P) (time : ℕ) (fs : List Fill) (p : P)

@@ -2,11 +2,12 @@
 use Prim.Native.Nat.{ℕ, _+_}
 use mathlib.Core.Bool.{cond}
 use mathlib.Core.List.{List, map}
-use lib.ListN.{length, getD, take}
+use mathlib.Core.Path.{_≡_}
+use lib.ListN.{getD, take}
 use Rattle.std.specs.Iters.{counting}
+use Rattle.std.specs.shelf.Lists.{sumBy}
 use Rattle.session.specs.Lines.{sameSide, other, lotsOn, ofRow, excess}
 use Rattle.session.specs.Participants.{nobody, isFixing, memberCount}
-use Rattle.session.specs.State.{State}
 use Rattle.session.specs.declared.fills.Fill.{Fill}
 use Rattle.session.specs.declared.lines.Line.{Line}
 use Rattle.session.specs.declared.lines.Side.{Side}
@@ -45,6 +46,10 @@ fillOf share rows ls row = record { bought = record { 0 = lotsFilled share rows 
 unfoldable pub fillsOf : (ℕ → ℕ) → List Participant → List Line → List Fill
 fillsOf share rows ls = map (fillOf share rows ls) (counting 0 256)
 
--- the fills of the sheet: one for each row of the table
-abbrev pub sheetFills : {P : Type 0} → State P → List Fill
-sheetFills s = take (length (s .rows)) (s .fills)
+-- all lots of some fills on a side
+abbrev pub totalOn : Side → List Fill → ℕ
+totalOn side fs = sumBy (filledOn side) fs
+
+-- as many lots are bought as sold
+abbrev pub Level : List Fill → Type 0
+Level fs = totalOn Buy fs ≡ totalOn Sell fs

@@ -3,9 +3,11 @@
 ghost use mathlib.Core.Bool.{true};
 ghost use mathlib.Core.Path.{_≡_};
 ghost use Prim.Native.Nat.{_≤_};
+ghost use lib.ListN.{take};
 ghost use Rattle.std.specs.Of.Vec.{vec-items, vec-len};
 ghost use Rattle.session.specs.Quotes.{lawfulQuotes};
 ghost use Rattle.session.specs.Participants.{memberCount, seatCount};
+ghost use Rattle.session.specs.Sheets.{Level};
 use crate::fills::Fill;
 use crate::participants::MOST_ROWS;
 use crate::participants::Participant;
@@ -39,6 +41,7 @@ pub struct Session<C, P> {
     ghost quoted: { vec-len quotes ≡ vec-len rows },
     ghost named: { lawfulQuotes (vec-items quotes) ≡ true },
     ghost tied: { table .rows ≡ vec-len rows },
+    ghost level: { Level (take (vec-len rows) fills) },
     ghost priced: { period .price .0 ≤ 10000000 },
     ghost before: { period .previous .0 ≤ 10000000 },
     ghost rounded: { period .round ≤ 64 },

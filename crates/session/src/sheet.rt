@@ -3,9 +3,10 @@
 ghost use mathlib.Core.Bool.{true, false};
 ghost use mathlib.Core.Path.{_≡_};
 ghost use Rattle.std.specs.Results.{Cases};
-ghost use Rattle.session.specs.Sheets.{sheetFills};
+ghost use Rattle.std.specs.Vec.{made};
+ghost use Rattle.session.specs.Sheets.{Level};
 ghost use Rattle.session.specs.Stages.{isFixed};
-ghost use Rattle.session.specs.State.{view};
+ghost use Rattle.session.specs.State.{view, sheetFills};
 ghost use Rattle.session.specs.declared.faults.SessionFault.the-variants.{WrongStage};
 use crate::faults::SessionFault;
 use crate::fills::Fill;
@@ -24,7 +25,8 @@ pub struct Sheet<'a> {
 impl<C, P> Session<C, P> {
     /// The sheet of a fixed session, a fill a row.
     pub fn sheet(&self) -> Result<Sheet<'_>, SessionFault>
-        ensures { λ r. ⌜ Cases r (λ s. (s .price ≡ view (now (self .entry)) .period .price) × (now (s .fills) ≡ sheetFills (view (now (self .entry)))) × (isFixed (view (now (self .entry)) .period .stage) ≡ true)) (λ f. (f ≡ WrongStage) × (isFixed (view (now (self .entry)) .period .stage) ≡ false)) ⌝ }
+        ensures value { λ r. ⌜ Cases r (λ s. (s .price ≡ view (now (self .entry)) .period .price) × (now (s .fills) ≡ sheetFills (view (now (self .entry)))) × (isFixed (view (now (self .entry)) .period .stage) ≡ true)) (λ f. (f ≡ WrongStage) × (isFixed (view (now (self .entry)) .period .stage) ≡ false)) ⌝ }
+        ensures level { λ r. ⌜ made r (λ s. Level (now (s .fills))) ⌝ }
     {
         if self.period.stage != Stage::Fixed {
             return Err(SessionFault::WrongStage);

@@ -1,22 +1,24 @@
 use borrow.Author.Needs.{needs}
 use native.Mathlib.Omega.{arith}
-use Prim.Native.Nat.{ℕ, _+_, _≤_, _<_}
-use mathlib.Core.Bool.{true, cond}
+use Prim.Native.Nat.{ℕ, _≤_, _<_}
+use mathlib.Core.Bool.{true}
 use mathlib.Core.List.{List}
-use mathlib.Core.Path.{_≡_, ap, _∙_}
-use lib.ListN.{length, getD}
-use Rattle.std.specs.Of.Vec.{vec-items}
+use mathlib.Core.Path.{_≡_, sym, ap, subst, _∙_}
+use lib.ListN.{length, getD, take}
+use Rattle.std.specs.Of.Vec.{vec-items, vec-len}
+use Rattle.sharing.specs.Shares.{inBounds}
 use Rattle.session.specs.Closing.{sharesOf}
-use Rattle.session.specs.Lines.{lawful, lotsOn, ofRow, sameSide, other, excess}
+use Rattle.session.specs.Lines.{lawful, lotsOn, ofRow, other, imbalance, excess}
 use Rattle.session.specs.Participants.{memberCount}
-use Rattle.session.specs.Sheets.{noFill, filledOn, shareOf}
+use Rattle.session.specs.Sheets.{noFill, filledOn, fillsOf, Level}
 use Rattle.session.specs.State.{State, view}
+use Rattle.session.specs.declared.fills.Fill.{Fill}
 use Rattle.session.specs.declared.lines.Line.{Line}
 use Rattle.session.specs.declared.lines.Side.{Side}
 use Rattle.session.specs.declared.lines.Side.the-variants.{Buy, Sell}
-use Rattle.session.specs.declared.participants.Participant.{Participant}
+use Rattle.session.proofs.Levels.{sheet-level, in-bounds}
 use Rattle.session.proofs.Owed.{row-le}
-use Rattle.session.proofs.Shared.{sheet-made, fixed-from}
+use Rattle.session.proofs.Shared.{sheet-from, fixed-from}
 use Rattle.session.proofs.Totals.{lawful-wider, lots-all, standing-le}
 use Rattle.session.proofs.session.Session.fix.Needs as need
 
@@ -40,16 +42,25 @@ share-out-requires g c κs =
 pub returns : need.returns
 returns g c =
     let s : State (g .P .Denot) = view (c .args .self .now) in
-    let share : ℕ → ℕ → ℕ → ℕ = g .P·SharingPolicy .share (s .policy) in
-    let F : Side → (ℕ → ℕ) → List Participant → Side → ℕ → ℕ = λ taker f rows side k. filledOn side (getD (c .fill-lines-fills .result) k noFill) + cond (sameSide taker side) (shareOf f rows k) 0 in
     let taker : c .other-taker .result ≡ other (excess (s .lines)) = c .other-taker .ensures ∙ ap other (c .excess .ensures) in
-    let shares : share (c .args .self .now .members) (c .imbalance-excess .result .0) ≡ sharesOf (g .P·SharingPolicy .share) s = ap (λ n. share n (c .imbalance-excess .result .0)) (c .args .self .now .counted) ∙ ap (share (memberCount (s .rows))) (c .imbalance-excess .ensures) in
     fixed-from (g .P·SharingPolicy .share) (g .P·SharingPolicy .told) s (c .args .time) (c .share-out .last .fills) (c .tell .last .self)
-    (sheet-made (sharesOf (g .P·SharingPolicy .share) s) (s .rows) (s .lines) (c .fill-lines-fills .result) (c .share-out .last .fills)
-    (search needs)
-    (λ side k h. c .fill-lines-fills .ensures side k h ∙ ap (λ (x : List Line). ofRow (lotsOn side) x k) (c .as-slice .ensures .value))
-    (λ side k h. c .share-out .ensures side k h
-    ∙ (ap (λ x. F x (share (c .args .self .now .members) (c .imbalance-excess .result .0)) (c .as-slice-2 .result .now) side k) taker
-    ∙ (ap (λ x. F (other (excess (s .lines))) x (c .as-slice-2 .result .now) side k) shares
-    ∙ ap (λ x. F (other (excess (s .lines))) (sharesOf (g .P·SharingPolicy .share) s) x side k) (c .as-slice-2 .ensures .value)))))
+    (sheet-from (g .P·SharingPolicy .share) s (c .as-slice .result .now) (c .as-slice-2 .result .now) (c .args .self .now .members) (c .imbalance-excess .result .0) (c .other-taker .result) (c .fill-lines-fills .result) (c .share-out .last .fills)
+    (c .as-slice .ensures .value) (c .as-slice-2 .ensures .value) (c .args .self .now .counted) (c .imbalance-excess .ensures) taker (search needs) (c .fill-lines-fills .ensures) (c .share-out .ensures))
     (c .tell .ensures ∙ (ap (λ n. g .P·SharingPolicy .told (s .policy) n (c .imbalance-excess .result .0)) (c .args .self .now .counted) ∙ ap (g .P·SharingPolicy .told (s .policy) (memberCount (s .rows))) (c .imbalance-excess .ensures)))
+
+pub ghost-self-2 : need.ghost-self-2
+ghost-self-2 g c =
+    let s : State (g .P .Denot) = view (c .args .self .now) in
+    let n : ℕ = vec-len (c .args .self .now .rows) in
+    let few : length (s .lines) ≤ 4096 = omega arith in
+    let wide : lawful 256 (s .lines) ≡ true = search (needs, lawful-wider) in
+    let sound : lawful n (s .lines) ≡ true = subst (λ m. lawful m (s .lines) ≡ true) (c .args .self .now .tied) (c .args .self .now .table .sound) in
+    let count : length (s .rows) ≤ n = omega (arith, c .args .self .now .rows .ok .0) in
+    let within : inBounds (memberCount (s .rows)) (imbalance (s .lines)) ≡ true = in-bounds (memberCount (s .rows)) (imbalance (s .lines)) (omega (arith, c .args .self .now .counted)) (omega (arith, c .args .self .now .counted)) (omega (arith, standing-le 256 Buy (s .lines) wide, standing-le 256 Sell (s .lines) wide)) in
+    let taker : c .other-taker .result ≡ other (excess (s .lines)) = c .other-taker .ensures ∙ ap other (c .excess .ensures) in
+    let sheet : c .share-out .last .fills ≡ fillsOf (sharesOf (g .P·SharingPolicy .share) s) (s .rows) (s .lines) =
+    sheet-from (g .P·SharingPolicy .share) s (c .as-slice .result .now) (c .as-slice-2 .result .now) (c .args .self .now .members) (c .imbalance-excess .result .0) (c .other-taker .result) (c .fill-lines-fills .result) (c .share-out .last .fills)
+    (c .as-slice .ensures .value) (c .as-slice-2 .ensures .value) (c .args .self .now .counted) (c .imbalance-excess .ensures) taker (search needs) (c .fill-lines-fills .ensures) (c .share-out .ensures) in
+    let level : Level (take n (c .share-out .last .fills)) = subst (λ (fs : List Fill). Level (take n fs)) (sym sheet)
+    (sheet-level n (sharesOf (g .P·SharingPolicy .share) s) (s .rows) (s .lines) (c .args .self .now .few) count sound (g .P·SharingPolicy·met .whole (s .policy) (memberCount (s .rows)) (imbalance (s .lines)) within)) in
+    search needs
