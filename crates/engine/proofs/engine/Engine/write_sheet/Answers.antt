@@ -10,7 +10,7 @@ use Rattle.engine.proofs.engine.Engine.write_sheet.Needs as need
 
 pub write-words-requires : need.write-words-requires
 write-words-requires g c κs =
-    let e = c .in-Continue-sheet .ensures tt in
+    let e = c .in-Continue-sheet .ensures tt .value in
     let rows = c .args .self .now .session .rows in
     let fills : List Fill = c .args .self .now .session .fills in
     let q : length (c .in-Continue-sheet .sheet .fills .now) ≡ min (length (vec-items rows)) (length fills) = ap (λ (xs : List Fill). length xs) (e .1) ∙ length-take (length (vec-items rows)) fills in
