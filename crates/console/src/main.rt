@@ -1,5 +1,7 @@
 //! The console: words on standard input, answers and the sheet on standard output.
 
+#![tactic(auto)]
+
 use engine::list::answer_list;
 use engine::words::words_of;
 use std::alloc::Global;

@@ -1,5 +1,7 @@
 //! One session of benchmark price trading: quotes, rounds of tendering, the fix and the fills.
 
+#![tactic(auto)]
+
 pub mod answers;
 mod begin;
 mod close;

@@ -1,5 +1,7 @@
 //! Plays each list of words in the data folder through the engine, and compares what it answers with what it should.
 
+#![tactic(auto)]
+
 use engine::list::answer_list;
 use engine::words::words_of;
 use std::alloc::Global;

@@ -1,6 +1,8 @@
 //! Plays sessions without words: calls that are made with typed values, where a list of words cannot reach. Each answer is
 //! compared with what the rules give.
 
+#![tactic(auto)]
+
 mod accounts;
 mod expected;
 mod limits;

@@ -12,7 +12,7 @@ small margin lots price m l p = let k : lots * price ≤ 400000000000 = mul-le _
 
 pub returns-in-None : goal.returns-in-None
 returns-in-None g c =
-    let e = c.in-None.ensures ∙ ap (λ n. fitting (amount n c.args.lots.0 c.args.price.0)) c.margin-figure.ensures in
+    let e = c.in-None.ensures ∙ ap (λ n. fitting (amount n c.args.lots.0 c.args.price.0)) c.margin_figure.ensures in
     let h : 2 ^ 64 ≤ amount g.C.QuotedContract.margin c.args.lots.0 c.args.price.0 = most _ e in
     let high : g.C.QuotedContract.margin ≤ 1500 = omega (arith, g.met.C.QuotedContract.margin_high, g.met.C.QuotedContract.worth_high) in
     record {

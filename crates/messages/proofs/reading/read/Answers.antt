@@ -5,21 +5,21 @@ use Rattle.messages.proofs.Matches.{fills-at}
 use Rattle.messages.proofs.Trip.{writes-back}
 use Rattle.messages.proofs.reading.read.Goals as goal
 
-pub call-of-requires : goal.call-of-requires
-call-of-requires c =
+pub call_of-requires : goal.call_of-requires
+call_of-requires c =
     fills-at c.in-Some.verb c.again.result.now c.first.result.now c.args.message.now
-    c.again.ensures c.first.ensures c.in-ok-check.ensures
+    c.again.ensures c.first.ensures c.in_ok-check.ensures
 
 pub returns-in-default : goal.returns-in-default
 unfolding reading
 returns-in-default c = search rules
 
-pub returns-in-err-check : goal.returns-in-err-check
+pub returns-in_err-check : goal.returns-in_err-check
 unfolding reading
-returns-in-err-check c = search rules
+returns-in_err-check c = search rules
 
 pub returns : goal.returns
 unfolding reading
 returns c =
-    let a : Ok (said c.call-of.result) ≡ reading c.args.message.now = search rules in
-    record { answer = a; back = writes-back c.args.message.now (said c.call-of.result) (sym a) }
+    let a : Ok (said c.call_of.result) ≡ reading c.args.message.now = search rules in
+    record { answer = a; back = writes-back c.args.message.now (said c.call_of.result) (sym a) }

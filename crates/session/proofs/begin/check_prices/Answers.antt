@@ -9,17 +9,17 @@ loop-place-preserved g c =
     let ps : List ℕ = g.L.PriceList.prices c.args.executed.now in
     let lt : c.loop-place.place < length ps = omega arith in
     let e = c.price.ensures in
-    let ok = c.in-ok-check-price.ensures in
+    let ok = c.in_ok-check_price.ensures in
     let here : get_or ps c.loop-place.place 0 ≤ 10000000 = omega (arith, ok.within) in
     (fit_on ps c.loop-place.place c.price.result.0 lt e c.loop-place.invariant.0 ok.answer, below_more _ _ c.loop-place.invariant.1 here)
 
-pub returns-in-err-check-price : goal.returns-in-err-check-price
-returns-in-err-check-price g c =
+pub returns-in_err-check_price : goal.returns-in_err-check_price
+returns-in_err-check_price g c =
     let ps : List ℕ = g.L.PriceList.prices c.args.executed.now in
     let lt : c.loop-place.place < length ps = omega arith in
     let p = err_from_is_err_and c.from-residual.result c.from-residual.ensures.1 in
-    let w = c.in-err-check-price.ensures in
-    let stop = fit-stop ps c.loop-place.place c.price.result.0 c.in-err-check-price.field-0.0 lt c.price.ensures c.loop-place.invariant.0 w.answer in
+    let w = c.in_err-check_price.ensures in
+    let stop = fit-stop ps c.loop-place.place c.price.result.0 c.in_err-check_price.field-0.0 lt c.price.ensures c.loop-place.invariant.0 w.answer in
     record { answer = p.1 ∙ ap Err p.2 ∙ sym stop; within = made-not c.from-residual.result p.0 _ p.1 }
 
 pub returns : goal.returns

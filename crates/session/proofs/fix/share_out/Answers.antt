@@ -9,7 +9,7 @@ use Rattle.session.specs.declared.lines.Side.TheVariants.{Buy, Sell}
 use Rattle.session.specs.declared.participants.Participant.{Participant}
 use Rattle.session.proofs.Shared.{share-le, shared-none, shared-here, shared-more, shared-skip, shared-all, filled_more}
 use Rattle.session.proofs.fix.share_out.Goals as goal
-use Rattle.session.proofs.fix.share_out.Goals.{then-is-fixing, else-is-fixing}
+use Rattle.session.proofs.fix.share_out.Goals.{then-is_fixing, else-is_fixing}
 
 pub with-requires : goal.with-requires
 with-requires g c =
@@ -20,7 +20,7 @@ with-requires g c =
       sold = omega (arith, c.loop-row.invariant.1 Sell c.loop-row.row w, shared-here Sell c.args.taker share c.args.rows.now c.args.fills.now c.loop-row.row, c.requires.stood Sell c.loop-row.row w);
       lots = omega (
         arith,
-        c.share-of.ensures,
+        c.share_of.ensures,
         share-le share c.args.members c.args.excess.0 c.loop-row.place
             (g.met.P.SharingPolicy.whole c.args.policy.now c.args.members c.args.excess.0)
             (g.met.P.SharingPolicy.outside c.args.policy.now c.args.members c.args.excess.0 c.loop-row.place)
@@ -42,17 +42,17 @@ loop-row-preserved g c =
     let lt : row < length rows = omega arith in
     let room : row < length c.loop-row.fills = omega arith in
     let kind : (d : Participant) → is_fixing (get_or rows row d).kind ≡ is_fixing (get_or rows row nobody).kind = λ d. ap (λ (p : Participant). is_fixing p.kind) (get_or_default rows row d nobody lt) in
-    elim c.if-is-fixing.branch [
-      | then-is-fixing w ↦
-          let yes : is_fixing (get_or rows row nobody).kind ≡ true = sym (kind _) ∙ sym w.if-is-fixing.ensures in (
+    elim c.if-is_fixing.branch [
+      | then-is_fixing w ↦
+          let yes : is_fixing (get_or rows row nobody).kind ≡ true = sym (kind _) ∙ sym w.if-is_fixing.ensures in (
             w.place-is ∙ omega (arith, c.loop-row.invariant.0, count_by_more_yes (λ (p : Participant). is_fixing p.kind) rows row nobody lt yes),
             λ side k h. ap (λ (fs : List Fill). filled_on side (get_or fs k no_fill)) w.fills-is
                 ∙ shared-more side c.args.taker share rows c.args.fills.now c.loop-row.fills row w.with.result room yes
-                (ap (filled_on side) w.with.ensures ∙ filled_more side c.args.taker (get_or c.loop-row.fills row no_fill) w.share-of.result.0 ∙ ap (λ n. filled_on side (get_or c.loop-row.fills row no_fill) + cond (same_side c.args.taker side) n 0) (w.share-of.ensures ∙ ap share c.loop-row.invariant.0))
+                (ap (filled_on side) w.with.ensures ∙ filled_more side c.args.taker (get_or c.loop-row.fills row no_fill) w.share_of.result.0 ∙ ap (λ n. filled_on side (get_or c.loop-row.fills row no_fill) + cond (same_side c.args.taker side) n 0) (w.share_of.ensures ∙ ap share c.loop-row.invariant.0))
                 (c.loop-row.invariant.1 side) k h,
           )
-      | else-is-fixing w ↦
-          let no : is_fixing (get_or rows row nobody).kind ≡ false = sym (kind _) ∙ sym w.if-is-fixing.ensures in (
+      | else-is_fixing w ↦
+          let no : is_fixing (get_or rows row nobody).kind ≡ false = sym (kind _) ∙ sym w.if-is_fixing.ensures in (
             w.place-is ∙ omega (arith, c.loop-row.invariant.0, count_by_more_no (λ (p : Participant). is_fixing p.kind) rows row nobody lt no),
             λ side k h. ap (λ (fs : List Fill). filled_on side (get_or fs k no_fill)) w.fills-is ∙ shared-skip side c.args.taker share rows c.args.fills.now c.loop-row.fills row no (c.loop-row.invariant.1 side) k h,
           )

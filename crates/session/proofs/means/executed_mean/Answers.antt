@@ -9,7 +9,7 @@ use Rattle.session.proofs.means.executed_mean.Goals as goal
 pub loop-place-preserved : goal.loop-place-preserved
 loop-place-preserved g c = let b = c.requires.within c.loop-place.place (omega arith) in search (rules, sum_by_more)
 
-within : (g : given.Over) (c : goal.After-nearest-mean g) → c.nearest-mean.result ≤ 10000000
+within : (g : given.Over) (c : goal.After-nearest_mean g) → c.nearest_mean.result ≤ 10000000
 within g c = omega (arith, nearest-le c.loop-place.sum c.count.result (omega arith))
 
 pub overflow-cast-result : goal.overflow-cast-result

@@ -8,7 +8,7 @@ overflow-sub-rest c = let k = kept_at c.args.quotes.now c.tally-tally.result c.t
 pub overflow-sub-rest-2 : goal.overflow-sub-rest-2
 overflow-sub-rest-2 c = let k = kept_at c.args.quotes.now c.tally-tally.result c.tally-tally.ensures.value c.requires.named in let l = k.low (omega arith) in omega arith
 
-within : (c : goal.After-nearest-mean) → c.nearest-mean.result ≤ 10000000
+within : (c : goal.After-nearest_mean) → c.nearest_mean.result ≤ 10000000
 within c = let k = kept_at c.args.quotes.now c.tally-tally.result c.tally-tally.ensures.value c.requires.named in let h = k.high (omega arith) in
     omega (arith, nearest-le ((c.tally-tally.result.sum - c.tally-tally.result.highest) - c.tally-tally.result.lowest) (c.tally-tally.result.count - 2) (omega arith))
 

@@ -9,12 +9,12 @@ use Rattle.session.proofs.strike.check_dues.Goals as goal
 pub loop-row-preserved : goal.loop-row-preserved
 loop-row-preserved g c =
     let m : Accounts = g.B.MarginBook.means c.args.book.now in
-    covers_more m (due_in c.args.dues.now) c.loop-row.row c.loop-row.invariant (sym c.in-ok-check-due.ensures)
+    covers_more m (due_in c.args.dues.now) c.loop-row.row c.loop-row.invariant (sym c.in_ok-check_due.ensures)
 
-pub returns-in-err-check-due : goal.returns-in-err-check-due
-returns-in-err-check-due g c =
+pub returns-in_err-check_due : goal.returns-in_err-check_due
+returns-in_err-check_due g c =
     let p = err_from_is_err_and c.from-residual.result c.from-residual.ensures.1 in
     let m : Accounts = g.B.MarginBook.means c.args.book.now in
     let lt : c.loop-row.row < c.args.rows = omega arith in
-    let f : covers (m c.loop-row.row) (due_in c.args.dues.now c.loop-row.row) ≡ Err c.in-err-check-due.field-0.0 = sym c.in-err-check-due.ensures in
-    p.1 ∙ ap Err p.2 ∙ sym (covers-stop m (due_in c.args.dues.now) c.loop-row.row c.args.rows c.in-err-check-due.field-0.0 lt c.loop-row.invariant f)
+    let f : covers (m c.loop-row.row) (due_in c.args.dues.now c.loop-row.row) ≡ Err c.in_err-check_due.field-0.0 = sym c.in_err-check_due.ensures in
+    p.1 ∙ ap Err p.2 ∙ sym (covers-stop m (due_in c.args.dues.now) c.loop-row.row c.args.rows c.in_err-check_due.field-0.0 lt c.loop-row.invariant f)

@@ -10,4 +10,4 @@ loop-row-init g c = search (rules, released-none)
 pub loop-row-preserved : goal.loop-row-preserved
 loop-row-preserved g c =
     let m : Accounts = g.B.MarginBook.means c.args.book.now in
-    c.give-back.ensures ∙ (ap (λ (x : Accounts). released_at x c.loop-row.row (due_in c.args.dues.now c.loop-row.row)) c.loop-row.invariant ∙ released-more m (due_in c.args.dues.now) c.loop-row.row)
+    c.give_back.ensures ∙ (ap (λ (x : Accounts). released_at x c.loop-row.row (due_in c.args.dues.now c.loop-row.row)) c.loop-row.invariant ∙ released-more m (due_in c.args.dues.now) c.loop-row.row)

@@ -20,8 +20,8 @@ overflow-add-dues c =
     let w : l.row < length c.loop-line.dues = omega (arith, row_at 256 c.args.lines.now c.loop-line.line-index no_line c.requires.sound (omega arith)) in
     omega (arith, c.loop-line.invariant.1 l.row w, c.due-due.ensures, row-next-le (line_due c.args.figure.0 c.args.which) 600000000000000 c.args.lines.now c.loop-line.line-index no_line (dues-all 256 c.args.figure.0 c.args.which c.requires.figure c.args.lines.now c.requires.sound) (omega arith))
 
-pub bounds-dues-row-in-loop-line : goal.bounds-dues-row-in-loop-line
-bounds-dues-row-in-loop-line c = omega (arith, row_at 256 c.args.lines.now c.loop-line.line-index no_line c.requires.sound (omega arith))
+pub bounds-dues-row_in-loop-line : goal.bounds-dues-row_in-loop-line
+bounds-dues-row_in-loop-line c = omega (arith, row_at 256 c.args.lines.now c.loop-line.line-index no_line c.requires.sound (omega arith))
 
 pub loop-line-preserved : goal.loop-line-preserved
 loop-line-preserved c =

@@ -1,17 +1,9 @@
-use Rattle.std.proofs.Common.{sym, refl, ◌∙◌, arith, rules}
-use Rattle.std.proofs.lemmas.Result.{err_from_is_err_and}
-use Rattle.std.proofs.lemmas.Bool.Decides.{nat_tests}
-use Rattle.books.proofs.Stored.{line-freeze, freeze-none}
+use Rattle.std.proofs.Common.{sym, ◌∙◌, rules}
+use Rattle.books.proofs.Stored.{line-freeze}
 use Rattle.books.proofs.bank_line.BankLineBookMarginBook.freeze.Goals as goal
 
-pub returns-in-err-held : goal.returns-in-err-held
-returns-in-err-held c =
-    let p = err_from_is_err_and c.from-residual.result c.from-residual.ensures.1 in
-    let no = rw c.balance.ensures at c.in-err-held.ensures in
-    rw (p.1, p.2) (record { answer = sym no; after = freeze-none _ _ _ _ no; kept = refl })
-
-pub returns : goal.returns
-returns c =
-    let enough = c.in-ok-held.ensures.1 in
-    let held = sym c.balance.ensures ∙ c.in-ok-held.ensures.0 in
-    record { answer = grind (arith, nat_tests); after = search (rules, line-freeze); kept = tt }
+pub returns-clause-after : goal.returns-clause-after
+returns-clause-after c =
+    let enough = c.in_ok-held.ensures.1 in
+    let held = sym c.balance.ensures ∙ c.in_ok-held.ensures.0 in
+    search (rules, line-freeze)

@@ -7,5 +7,5 @@ pub returns : goal.returns
 returns g c = record {
   kept = c.hear-answer.ensures.kept;
   short = λ h. absurd (omega arith);
-  words = λ h. c.put.ensures ∙ ap (λ (ws : List ℕ). fronted c.args.out.now ws) (c.answer-words.ensures ∙ ap (λ v. answer_words c.hear-answer.result v) c.verb-of.ensures);
+  words = λ h. c.put.ensures ∙ ap (λ (ws : List ℕ). fronted c.args.out.now ws) (c.answer_words.ensures ∙ ap (λ v. answer_words c.hear-answer.result v) c.verb_of.ensures);
 }

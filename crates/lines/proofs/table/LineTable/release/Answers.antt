@@ -9,30 +9,30 @@ use Rattle.lines.proofs.Releases.{covers-same, released-same}
 use Rattle.lines.proofs.Totals.{lawful-wider}
 use Rattle.lines.proofs.table.LineTable.release.Goals as goal
 
-pub sum-dues-dues-requires : goal.sum-dues-dues-requires
-sum-dues-dues-requires g c = search (rules, lawful-wider)
+pub sum_dues-dues-requires : goal.sum_dues-dues-requires
+sum_dues-dues-requires g c = search (rules, lawful-wider)
 
 pub returns : goal.returns
 returns g c =
     let m : Accounts = g.B.MarginBook.means c.args.book.now in
     let due : ℕ → ℕ = due_to g.C.QuotedContract.margin c.args.which (vec_items c.args.self.now.lines) in
     let n : ℕ = c.args.self.now.rows in
-    let same : (k : ℕ) → k < n → due_in c.sum-dues-dues.result k ≡ due k = λ k h. c.sum-dues-dues.ensures k (omega arith) ∙ ap (λ (ls : List Line). due_to g.C.QuotedContract.margin c.args.which ls k) c.as-slice.ensures.value in
+    let same : (k : ℕ) → k < n → due_in c.sum_dues-dues.result k ≡ due k = λ k h. c.sum_dues-dues.ensures k (omega arith) ∙ ap (λ (ls : List Line). due_to g.C.QuotedContract.margin c.args.which ls k) c.as_slice.ensures.value in
     record {
-      answer = c.in-ok-check-dues.ensures ∙ covers-same m (due_in c.sum-dues-dues.result) due n same;
-      after = c.release-dues.ensures ∙ released-same m (due_in c.sum-dues-dues.result) due n same;
+      answer = c.in_ok-check_dues.ensures ∙ covers-same m (due_in c.sum_dues-dues.result) due n same;
+      after = c.release_dues.ensures ∙ released-same m (due_in c.sum_dues-dues.result) due n same;
       kept = tt;
     }
 
-pub returns-in-err-check-dues : goal.returns-in-err-check-dues
-returns-in-err-check-dues g c =
+pub returns-in_err-check_dues : goal.returns-in_err-check_dues
+returns-in_err-check_dues g c =
     let m : Accounts = g.B.MarginBook.means c.args.book.now in
     let due : ℕ → ℕ = due_to g.C.QuotedContract.margin c.args.which (vec_items c.args.self.now.lines) in
     let n : ℕ = c.args.self.now.rows in
-    let same : (k : ℕ) → k < n → due_in c.sum-dues-dues.result k ≡ due k = λ k h. c.sum-dues-dues.ensures k (omega arith) ∙ ap (λ (ls : List Line). due_to g.C.QuotedContract.margin c.args.which ls k) c.as-slice.ensures.value in
+    let same : (k : ℕ) → k < n → due_in c.sum_dues-dues.result k ≡ due k = λ k h. c.sum_dues-dues.ensures k (omega arith) ∙ ap (λ (ls : List Line). due_to g.C.QuotedContract.margin c.args.which ls k) c.as_slice.ensures.value in
     let p = err_from_is_err_and c.from-residual.result c.from-residual.ensures.1 in
     record {
-      answer = p.1 ∙ ap Err p.2 ∙ (c.in-err-check-dues.ensures ∙ covers-same m (due_in c.sum-dues-dues.result) due n same);
+      answer = p.1 ∙ ap Err p.2 ∙ (c.in_err-check_dues.ensures ∙ covers-same m (due_in c.sum_dues-dues.result) due n same);
       after = made-not c.from-residual.result p.0 _ p.1;
       kept = refused_all c.from-residual.result _ (λ y. refl);
     }

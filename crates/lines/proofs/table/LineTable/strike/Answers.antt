@@ -23,10 +23,10 @@ returns g c =
       whole = below_rows c.args.self.now.rows (line_due g.C.QuotedContract.margin c.args.which) ls c.args.self.now.sound;
     }
 
-pub returns-in-err-release : goal.returns-in-err-release
-returns-in-err-release g c =
+pub returns-in_err-release : goal.returns-in_err-release
+returns-in_err-release g c =
     let p = err_from_is_err_and c.from-residual.result c.from-residual.ensures.1 in
-    let w = c.in-err-release.ensures in
+    let w = c.in_err-release.ensures in
     record {
       answer = p.1 ∙ ap Err p.2 ∙ w.answer;
       lines = made-not c.from-residual.result p.0 _ p.1;

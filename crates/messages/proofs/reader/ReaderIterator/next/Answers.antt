@@ -10,6 +10,6 @@ returns-then-start-self c =
 
 pub returns : goal.returns
 returns c =
-    let m = messages-cut c.args.self.now.words.now c.args.self.now.place c.end-of-end.result (omega arith) c.end-of-end.ensures.end in
+    let m = messages-cut c.args.self.now.words.now c.args.self.now.place c.end_of-end.result (omega arith) c.end_of-end.ensures.end in
     let fewer = ap length m in
     record { steps = search rules; goes = search rules }

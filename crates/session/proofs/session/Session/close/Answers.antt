@@ -2,4 +2,4 @@ use Rattle.std.proofs.Common.{rules}
 use Rattle.session.proofs.session.Session.close.Goals as goal
 
 pub returns-in-Market : goal.returns-in-Market
-returns-in-Market g c = let e = c.close-market.ensures (g.B.MarginBook.means c.args.book.now) in search rules
+returns-in-Market g c = let e = c.close_market.ensures (g.B.MarginBook.means c.args.book.now) in search rules

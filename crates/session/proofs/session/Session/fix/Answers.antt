@@ -15,16 +15,16 @@ use Rattle.session.proofs.Shared.{sheet-from, fixed_from}
 use Rattle.session.proofs.Totals.{lawful-wider, lots-all, standing-le}
 use Rattle.session.proofs.session.Session.fix.Goals as goal
 
-pub fill-lines-fills-requires : goal.fill-lines-fills-requires
-fill-lines-fills-requires g c = search (rules, lawful-wider)
+pub fill_lines-fills-requires : goal.fill_lines-fills-requires
+fill_lines-fills-requires g c = search (rules, lawful-wider)
 
-pub share-out-requires : goal.share-out-requires
-share-out-requires g c =
+pub share_out-requires : goal.share_out-requires
+share_out-requires g c =
     let ls : List Line = vec_items c.args.self.now.table.lines in
     let few : length ls ≤ 4096 = omega arith in
     let sound : lawful 256 ls ≡ true = search (rules, lawful-wider) in
-    let stood : (side : Side) (k : ℕ) → k < 256 → filled_on side (get_or c.fill-lines-fills.result k no_fill) ≤ 163840000 = λ side k h.
-    omega (arith, c.fill-lines-fills.ensures side k h, ap (λ (x : List Line). of_row (lots_on side) x k) c.as-slice.ensures.value, row-le (lots_on side) 40000 ls k (lots-all 256 side ls sound)) in
+    let stood : (side : Side) (k : ℕ) → k < 256 → filled_on side (get_or c.fill_lines-fills.result k no_fill) ≤ 163840000 = λ side k h.
+    omega (arith, c.fill_lines-fills.ensures side k h, ap (λ (x : List Line). of_row (lots_on side) x k) c.as_slice.ensures.value, row-le (lots_on side) 40000 ls k (lots-all 256 side ls sound)) in
     record {
       few = search rules;
       room = search rules;
@@ -36,9 +36,9 @@ pub returns : goal.returns
 returns g c =
     let s : State g.row.P.Denot = view c.args.self.now in
     let taker : c.other-taker.result ≡ other (excess s.lines) = c.other-taker.ensures ∙ ap other c.excess.ensures in
-    fixed_from g.P.SharingPolicy.share g.P.SharingPolicy.told s c.args.time c.share-out.new.fills c.tell.new.self
-    (sheet-from g.P.SharingPolicy.share s c.as-slice.result.now c.as-slice-2.result.now c.args.self.now.members c.imbalance-excess.result.0 c.other-taker.result c.fill-lines-fills.result c.share-out.new.fills
-    c.as-slice.ensures.value c.as-slice-2.ensures.value c.args.self.now.counted c.imbalance-excess.ensures taker (search rules) c.fill-lines-fills.ensures c.share-out.ensures)
+    fixed_from g.P.SharingPolicy.share g.P.SharingPolicy.told s c.args.time c.share_out.new.fills c.tell.new.self
+    (sheet-from g.P.SharingPolicy.share s c.as_slice.result.now c.as_slice-2.result.now c.args.self.now.members c.imbalance-excess.result.0 c.other-taker.result c.fill_lines-fills.result c.share_out.new.fills
+    c.as_slice.ensures.value c.as_slice-2.ensures.value c.args.self.now.counted c.imbalance-excess.ensures taker (search rules) c.fill_lines-fills.ensures c.share_out.ensures)
     (c.tell.ensures ∙ (ap (λ n. g.P.SharingPolicy.told s.policy n c.imbalance-excess.result.0) c.args.self.now.counted ∙ ap (g.P.SharingPolicy.told s.policy (member_count s.rows)) c.imbalance-excess.ensures))
 
 pub invariant-of-self-2 : goal.invariant-of-self-2
@@ -51,9 +51,9 @@ invariant-of-self-2 g c =
     let count : length s.rows ≤ n = omega (arith, c.args.self.now.rows.ok.0) in
     let within : in_bounds (member_count s.rows) (imbalance s.lines) ≡ true = in_bounds_lem (member_count s.rows) (imbalance s.lines) (omega (arith, c.args.self.now.counted)) (omega (arith, c.args.self.now.counted)) (omega (arith, standing-le 256 Buy s.lines wide, standing-le 256 Sell s.lines wide)) in
     let taker : c.other-taker.result ≡ other (excess s.lines) = c.other-taker.ensures ∙ ap other c.excess.ensures in
-    let sheet : c.share-out.new.fills ≡ fills_of (shares_of g.P.SharingPolicy.share s) s.rows s.lines =
-    sheet-from g.P.SharingPolicy.share s c.as-slice.result.now c.as-slice-2.result.now c.args.self.now.members c.imbalance-excess.result.0 c.other-taker.result c.fill-lines-fills.result c.share-out.new.fills
-    c.as-slice.ensures.value c.as-slice-2.ensures.value c.args.self.now.counted c.imbalance-excess.ensures taker (search rules) c.fill-lines-fills.ensures c.share-out.ensures in
-    let level : Level (take n c.share-out.new.fills) = subst (λ (fs : List Fill). Level (take n fs)) (sym sheet)
+    let sheet : c.share_out.new.fills ≡ fills_of (shares_of g.P.SharingPolicy.share s) s.rows s.lines =
+    sheet-from g.P.SharingPolicy.share s c.as_slice.result.now c.as_slice-2.result.now c.args.self.now.members c.imbalance-excess.result.0 c.other-taker.result c.fill_lines-fills.result c.share_out.new.fills
+    c.as_slice.ensures.value c.as_slice-2.ensures.value c.args.self.now.counted c.imbalance-excess.ensures taker (search rules) c.fill_lines-fills.ensures c.share_out.ensures in
+    let level : Level (take n c.share_out.new.fills) = subst (λ (fs : List Fill). Level (take n fs)) (sym sheet)
     (sheet-level n (shares_of g.P.SharingPolicy.share s) s.rows s.lines c.args.self.now.few count sound (g.met.P.SharingPolicy.whole s.policy (member_count s.rows) (imbalance s.lines) within)) in
     search rules

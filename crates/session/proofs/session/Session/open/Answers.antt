@@ -12,13 +12,13 @@ invariant-of-result g c =
     let made = c.in-Ok.ensures in (
       omega (arith, made.count, counts.0),
       (
-        c.count-members-members.ensures ∙ sym (ap member_count made.rows),
+        c.count_members-members.ensures ∙ sym (ap member_count made.rows),
         (
-          omega (arith, c.count-members-members.ensures, counts.1),
+          omega (arith, c.count_members-members.ensures, counts.1),
           (
-            omega (arith, c.count-members-members.ensures, counts.2),
+            omega (arith, c.count_members-members.ensures, counts.2),
             (
-              c.count-seats-seats.ensures ∙ sym (ap seat_count made.rows),
+              c.count_seats-seats.ensures ∙ sym (ap seat_count made.rows),
               (
                 made.quoted ∙ sym made.count,
                 (

@@ -16,13 +16,13 @@ returns g c =
     let count : n ≡ length (vec_items c.args.self.now.rows) = c.len-rows.ensures ∙ c.args.self.now.rows.ok.0 in
     let same : (k : ℕ) → k < n → due_in c.dues-dues.result k ≡ due k = λ k h. c.dues-dues.ensures k (omega (arith, c.len-rows.ensures)) in
     record {
-      answer = c.in-ok-check-dues.ensures ∙ (covers-same m (due_in c.dues-dues.result) due n same ∙ ap (λ k. covers_all m due k) count);
-      after = c.release-dues.ensures ∙ (released-same m (due_in c.dues-dues.result) due n same ∙ ap (λ k. released_all m due k) count);
+      answer = c.in_ok-check_dues.ensures ∙ (covers-same m (due_in c.dues-dues.result) due n same ∙ ap (λ k. covers_all m due k) count);
+      after = c.release_dues.ensures ∙ (released-same m (due_in c.dues-dues.result) due n same ∙ ap (λ k. released_all m due k) count);
       kept = tt;
     }
 
-pub returns-in-err-check-dues : goal.returns-in-err-check-dues
-returns-in-err-check-dues g c =
+pub returns-in_err-check_dues : goal.returns-in_err-check_dues
+returns-in_err-check_dues g c =
     let m : Accounts = g.B.MarginBook.means c.args.book.now in
     let due : ℕ → ℕ = due_to g.C.QuotedContract.margin c.args.which (vec_items c.args.self.now.table.lines) in
     let n : ℕ = c.len-rows.result in
@@ -30,7 +30,7 @@ returns-in-err-check-dues g c =
     let same : (k : ℕ) → k < n → due_in c.dues-dues.result k ≡ due k = λ k h. c.dues-dues.ensures k (omega (arith, c.len-rows.ensures)) in
     let p = err_from_is_err_and c.from-residual.result c.from-residual.ensures.1 in
     record {
-      answer = p.1 ∙ ap Err p.2 ∙ (c.in-err-check-dues.ensures ∙ (covers-same m (due_in c.dues-dues.result) due n same ∙ ap (λ k. covers_all m due k) count));
+      answer = p.1 ∙ ap Err p.2 ∙ (c.in_err-check_dues.ensures ∙ (covers-same m (due_in c.dues-dues.result) due n same ∙ ap (λ k. covers_all m due k) count));
       after = made-not c.from-residual.result p.0 _ p.1;
       kept = refused_all c.from-residual.result _ (λ y. refl);
     }
