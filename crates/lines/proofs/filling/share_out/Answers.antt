@@ -28,8 +28,8 @@ with-requires g c =
       );
     }
 
-pub overflow-add-place : goal.overflow-add-place
-overflow-add-place g c = omega (arith, c.loop-row.invariant.0, count_by-le-length (λ (p : Participant). is_fixing p.kind) (take c.loop-row.row c.args.rows.now), length-take c.loop-row.row c.args.rows.now)
+pub overflow_add-place : goal.overflow_add-place
+overflow_add-place g c = omega (arith, c.loop-row.invariant.0, count_by-le-length (λ (p : Participant). is_fixing p.kind) (take c.loop-row.row c.args.rows.now), length-take c.loop-row.row c.args.rows.now)
 
 pub loop-row-init : goal.loop-row-init
 loop-row-init g c = (refl, λ side k h. shared-none side c.args.taker (g.P.SharingPolicy.share c.args.policy.now c.args.members c.args.excess.0) c.args.rows.now c.args.fills.now k)

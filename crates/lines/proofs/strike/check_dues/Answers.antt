@@ -13,7 +13,7 @@ loop-row-preserved g c =
 
 pub returns-in_err-check_due : goal.returns-in_err-check_due
 returns-in_err-check_due g c =
-    let p = err_from_is_err_and c.from-residual.result c.from-residual.ensures.1 in
+    let p = err_from_is_err_and c.from_residual.result c.from_residual.ensures.1 in
     let m : Accounts = g.B.MarginBook.means c.args.book.now in
     let lt : c.loop-row.row < c.args.rows = omega arith in
     let f : covers (m c.loop-row.row) (due_in c.args.dues.now c.loop-row.row) ≡ Err c.in_err-check_due.field-0.0 = sym c.in_err-check_due.ensures in

@@ -18,8 +18,8 @@ due-due-requires g c = search (rules, lots-at, price-at)
 pub bounds-dues-row : goal.bounds-dues-row
 bounds-dues-row g c = omega (arith, row_at 256 c.args.lines.now c.loop-line.line-index no_line c.requires.sound (omega arith))
 
-pub overflow-add-dues : goal.overflow-add-dues
-overflow-add-dues g c =
+pub overflow_add-dues : goal.overflow_add-dues
+overflow_add-dues g c =
     let l : Line = get_or c.args.lines.now c.loop-line.line-index no_line in
     let w : l.row < length c.loop-line.dues = omega (arith, row_at 256 c.args.lines.now c.loop-line.line-index no_line c.requires.sound (omega arith)) in
     omega (arith, c.loop-line.invariant.1 l.row w, c.due-due.ensures, row-next-le (line_due g.C.QuotedContract.margin c.args.which) 600000000000000 c.args.lines.now c.loop-line.line-index no_line (dues-all 256 g.C.QuotedContract.margin c.args.which (high g) c.args.lines.now c.requires.sound) (omega arith))

@@ -2,8 +2,8 @@ use Rattle.std.proofs.Common.{sym, ◌∙◌, arith, rules}
 use Rattle.messages.proofs.Matches.{refused-here, passed_here, at-the-end, leads-none, leads-some, ends_some, ends-none}
 use Rattle.messages.proofs.reading.check.Goals as goal
 
-pub returns-in-default : goal.returns-in-default
-returns-in-default c = search (rules, refused-here, leads-none)
+pub returns-in_default : goal.returns-in_default
+returns-in_default c = search (rules, refused-here, leads-none)
 
 pub returns-then-not-is_kind : goal.returns-then-not-is_kind
 returns-then-not-is_kind c =

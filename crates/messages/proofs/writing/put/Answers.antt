@@ -13,4 +13,4 @@ returns-in-Some c =
 pub returns : goal.returns
 returns c =
     writes-all c.args.draft.verb (draft_figures c.args.draft) c.args.out.now c.len-words.result c.fill.new.out
-    (omega arith) (omega arith) (sym c.in-default.is ∙ c.first_over.ensures) c.fill.ensures
+    (omega arith) (omega arith) (sym c.in_default.is ∙ c.first_over.ensures) c.fill.ensures

@@ -17,10 +17,10 @@ pub returns-in_err-check_price : goal.returns-in_err-check_price
 returns-in_err-check_price g c =
     let ps : List ℕ = g.L.PriceList.prices c.args.executed.now in
     let lt : c.loop-place.place < length ps = omega arith in
-    let p = err_from_is_err_and c.from-residual.result c.from-residual.ensures.1 in
+    let p = err_from_is_err_and c.from_residual.result c.from_residual.ensures.1 in
     let w = c.in_err-check_price.ensures in
     let stop = fit-stop ps c.loop-place.place c.price.result.0 c.in_err-check_price.field-0.0 lt c.price.ensures c.loop-place.invariant.0 w.answer in
-    record { answer = p.1 ∙ ap Err p.2 ∙ sym stop; within = made-not c.from-residual.result p.0 _ p.1 }
+    record { answer = p.1 ∙ ap Err p.2 ∙ sym stop; within = made-not c.from_residual.result p.0 _ p.1 }
 
 pub returns : goal.returns
 returns g c =

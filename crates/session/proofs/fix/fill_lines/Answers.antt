@@ -12,8 +12,8 @@ use Rattle.session.proofs.fix.fill_lines.Goals as goal
 pub bounds-fills-row : goal.bounds-fills-row
 bounds-fills-row c = omega (arith, row_at 256 c.args.lines.now c.loop-line.line-index no_line c.requires.sound (omega arith))
 
-pub bounds-fills-row_in-loop-line : goal.bounds-fills-row_in-loop-line
-bounds-fills-row_in-loop-line c = omega (arith, row_at 256 c.args.lines.now c.loop-line.line-index no_line c.requires.sound (omega arith))
+pub bounds-fills-row-in-loop-line : goal.bounds-fills-row-in-loop-line
+bounds-fills-row-in-loop-line c = omega (arith, row_at 256 c.args.lines.now c.loop-line.line-index no_line c.requires.sound (omega arith))
 
 pub with-requires : goal.with-requires
 with-requires c =

@@ -12,8 +12,8 @@ loop-place-preserved g c = let b = c.requires.within c.loop-place.place (omega a
 within : (g : given.Over) (c : goal.After-nearest_mean g) → c.nearest_mean.result ≤ 10000000
 within g c = omega (arith, nearest-le c.loop-place.sum c.count.result (omega arith))
 
-pub overflow-cast-result : goal.overflow-cast-result
-overflow-cast-result g c = let b = within g c in search rules
+pub overflow_cast-result : goal.overflow_cast-result
+overflow_cast-result g c = let b = within g c in search rules
 
 pub returns : goal.returns
 returns g c = record { value = search (rules, take_all); within = within g c }

@@ -11,5 +11,5 @@ pub returns-in_err-check_participant : goal.returns-in_err-check_participant
 returns-in_err-check_participant g c =
     let ls : List Listed = g.R.Roster.listed c.args.roster.now in
     let lt : c.loop-row.row < length ls = omega arith in
-    let p = err_from_is_err_and c.from-residual.result c.from-residual.ensures.1 in
+    let p = err_from_is_err_and c.from_residual.result c.from_residual.ensures.1 in
     p.1 ∙ ap Err p.2 ∙ sym (rows-stop ls c.loop-row.row (length ls) c.in_err-check_participant.field-0.0 lt c.loop-row.invariant (sym c.in_err-check_participant.ensures))

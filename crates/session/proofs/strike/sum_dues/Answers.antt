@@ -14,14 +14,14 @@ due-due-requires c = search (rules, lots-at, price-at)
 pub bounds-dues-row : goal.bounds-dues-row
 bounds-dues-row c = omega (arith, row_at 256 c.args.lines.now c.loop-line.line-index no_line c.requires.sound (omega arith))
 
-pub overflow-add-dues : goal.overflow-add-dues
-overflow-add-dues c =
+pub overflow_add-dues : goal.overflow_add-dues
+overflow_add-dues c =
     let l : Line = get_or c.args.lines.now c.loop-line.line-index no_line in
     let w : l.row < length c.loop-line.dues = omega (arith, row_at 256 c.args.lines.now c.loop-line.line-index no_line c.requires.sound (omega arith)) in
     omega (arith, c.loop-line.invariant.1 l.row w, c.due-due.ensures, row-next-le (line_due c.args.figure.0 c.args.which) 600000000000000 c.args.lines.now c.loop-line.line-index no_line (dues-all 256 c.args.figure.0 c.args.which c.requires.figure c.args.lines.now c.requires.sound) (omega arith))
 
-pub bounds-dues-row_in-loop-line : goal.bounds-dues-row_in-loop-line
-bounds-dues-row_in-loop-line c = omega (arith, row_at 256 c.args.lines.now c.loop-line.line-index no_line c.requires.sound (omega arith))
+pub bounds-dues-row-in-loop-line : goal.bounds-dues-row-in-loop-line
+bounds-dues-row-in-loop-line c = omega (arith, row_at 256 c.args.lines.now c.loop-line.line-index no_line c.requires.sound (omega arith))
 
 pub loop-line-preserved : goal.loop-line-preserved
 loop-line-preserved c =

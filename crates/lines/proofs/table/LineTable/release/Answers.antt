@@ -30,9 +30,9 @@ returns-in_err-check_dues g c =
     let due : ℕ → ℕ = due_to g.C.QuotedContract.margin c.args.which (vec_items c.args.self.now.lines) in
     let n : ℕ = c.args.self.now.rows in
     let same : (k : ℕ) → k < n → due_in c.sum_dues-dues.result k ≡ due k = λ k h. c.sum_dues-dues.ensures k (omega arith) ∙ ap (λ (ls : List Line). due_to g.C.QuotedContract.margin c.args.which ls k) c.as_slice.ensures.value in
-    let p = err_from_is_err_and c.from-residual.result c.from-residual.ensures.1 in
+    let p = err_from_is_err_and c.from_residual.result c.from_residual.ensures.1 in
     record {
       answer = p.1 ∙ ap Err p.2 ∙ (c.in_err-check_dues.ensures ∙ covers-same m (due_in c.sum_dues-dues.result) due n same);
-      after = made-not c.from-residual.result p.0 _ p.1;
-      kept = refused_all c.from-residual.result _ (λ y. refl);
+      after = made-not c.from_residual.result p.0 _ p.1;
+      kept = refused_all c.from_residual.result _ (λ y. refl);
     }

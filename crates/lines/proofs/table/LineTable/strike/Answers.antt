@@ -25,16 +25,16 @@ returns g c =
 
 pub returns-in_err-release : goal.returns-in_err-release
 returns-in_err-release g c =
-    let p = err_from_is_err_and c.from-residual.result c.from-residual.ensures.1 in
+    let p = err_from_is_err_and c.from_residual.result c.from_residual.ensures.1 in
     let w = c.in_err-release.ensures in
     record {
       answer = p.1 ∙ ap Err p.2 ∙ w.answer;
-      lines = made-not c.from-residual.result p.0 _ p.1;
-      accounts = made-not c.from-residual.result p.0 _ p.1;
-      kept = refused_all c.from-residual.result _ (λ y. (refl, w.kept));
+      lines = made-not c.from_residual.result p.0 _ p.1;
+      accounts = made-not c.from_residual.result p.0 _ p.1;
+      kept = refused_all c.from_residual.result _ (λ y. (refl, w.kept));
       limit = refl;
       rows = refl;
-      none = made-not c.from-residual.result p.0 _ p.1;
-      rest = made-not c.from-residual.result p.0 _ p.1;
+      none = made-not c.from_residual.result p.0 _ p.1;
+      rest = made-not c.from_residual.result p.0 _ p.1;
       whole = below_rows c.args.self.now.rows (line_due g.C.QuotedContract.margin c.args.which) (lines_of c.args.self.now) c.args.self.now.sound;
     }

@@ -5,24 +5,24 @@ use Rattle.lines.specs.declared.line.Line.{Line}
 use Rattle.lines.proofs.Totals.{lots-le-read, standing-read, lawful-reduced, reduced-fits}
 use Rattle.lines.proofs.table.LineTable.take_off.Goals as goal
 
-pub overflow-sub-self : goal.overflow-sub-self
-overflow-sub-self c = let lt : c.args.line < length (vec_items c.args.self.now.lines) = omega arith in
+pub overflow_sub-self : goal.overflow_sub-self
+overflow_sub-self c = let lt : c.args.line < length (vec_items c.args.self.now.lines) = omega arith in
     omega (arith, lots-le-read Buy (vec_items c.args.self.now.lines) c.args.line c.index.result.now lt c.index.ensures)
 
-pub overflow-sub-self-2 : goal.overflow-sub-self-2
-overflow-sub-self-2 c = let lt : c.args.line < length (vec_items c.args.self.now.lines) = omega arith in
+pub overflow_sub-self-2 : goal.overflow_sub-self-2
+overflow_sub-self-2 c = let lt : c.args.line < length (vec_items c.args.self.now.lines) = omega arith in
     omega (arith, lots-le-read Sell (vec_items c.args.self.now.lines) c.args.line c.index.result.now lt c.index.ensures)
 
-pub overflow-add-self : goal.overflow-add-self
-overflow-add-self c = let lt : c.args.line < length (vec_items c.args.self.now.lines) = omega arith in
+pub overflow_add-self : goal.overflow_add-self
+overflow_add-self c = let lt : c.args.line < length (vec_items c.args.self.now.lines) = omega arith in
     omega (arith, ap (lots_on Buy) c.less-new.ensures, reduced-fits c.args.self.now.rows Buy (vec_items c.args.self.now.lines) c.args.line c.index.result.now c.args.lots.0 c.args.self.now.sound (omega arith) lt c.index.ensures)
 
-pub overflow-add-self-2 : goal.overflow-add-self-2
-overflow-add-self-2 c = let lt : c.args.line < length (vec_items c.args.self.now.lines) = omega arith in
+pub overflow_add-self-2 : goal.overflow_add-self-2
+overflow_add-self-2 c = let lt : c.args.line < length (vec_items c.args.self.now.lines) = omega arith in
     omega (arith, ap (lots_on Sell) c.less-new.ensures, reduced-fits c.args.self.now.rows Sell (vec_items c.args.self.now.lines) c.args.line c.index.result.now c.args.lots.0 c.args.self.now.sound (omega arith) lt c.index.ensures)
 
-pub invariant-of-self : goal.invariant-of-self
-invariant-of-self c =
+pub invariant_of-self : goal.invariant_of-self
+invariant_of-self c =
     let ls : List Line = vec_items c.args.self.now.lines in
     let x : Line = c.index.result.now in
     let lt : c.args.line < length ls = omega arith in

@@ -5,11 +5,11 @@ use Rattle.participants.proofs.Averages.{Kept, nearest-le, nearest-ge, kept_at}
 use Rattle.participants.proofs.Tallied.{tallies}
 use Rattle.participants.proofs.quotes.Quotes.mean.Goals as goal
 
-pub overflow-sub-rest : goal.overflow-sub-rest
-overflow-sub-rest c = let k = kept_at (vec_items c.args.self.now.prices) c.tally-tally.result (c.tally-tally.ensures.value ∙ ap tallied c.as_slice.ensures.value) c.args.self.now.named in let l = k.low (omega arith) in omega arith
+pub overflow_sub-rest : goal.overflow_sub-rest
+overflow_sub-rest c = let k = kept_at (vec_items c.args.self.now.prices) c.tally-tally.result (c.tally-tally.ensures.value ∙ ap tallied c.as_slice.ensures.value) c.args.self.now.named in let l = k.low (omega arith) in omega arith
 
-pub overflow-sub-rest-2 : goal.overflow-sub-rest-2
-overflow-sub-rest-2 c = let k = kept_at (vec_items c.args.self.now.prices) c.tally-tally.result (c.tally-tally.ensures.value ∙ ap tallied c.as_slice.ensures.value) c.args.self.now.named in let l = k.low (omega arith) in omega arith
+pub overflow_sub-rest-2 : goal.overflow_sub-rest-2
+overflow_sub-rest-2 c = let k = kept_at (vec_items c.args.self.now.prices) c.tally-tally.result (c.tally-tally.ensures.value ∙ ap tallied c.as_slice.ensures.value) c.args.self.now.named in let l = k.low (omega arith) in omega arith
 
 within : (c : goal.After-nearest_mean) → (1 ≤ c.nearest_mean.result) × (c.nearest_mean.result ≤ 10000000)
 within c =
@@ -21,8 +21,8 @@ within c =
       omega (arith, nearest-le 10000000 ((t.sum - t.highest) - t.lowest) (t.count - 2) (omega arith) (omega arith)),
     )
 
-pub overflow-cast-result : goal.overflow-cast-result
-overflow-cast-result c = let b = within c in search rules
+pub overflow_cast-result : goal.overflow_cast-result
+overflow_cast-result c = let b = within c in search rules
 
 pub returns : goal.returns
 returns c = let e = c.tally-tally.ensures.value ∙ ap tallied c.as_slice.ensures.value in record { value = search rules; tallied = tallies (vec_items c.args.self.now.prices) c.args.self.now.named; within = within c }

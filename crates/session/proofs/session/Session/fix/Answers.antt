@@ -41,8 +41,8 @@ returns g c =
     c.as_slice.ensures.value c.as_slice-2.ensures.value c.args.self.now.counted c.imbalance-excess.ensures taker (search rules) c.fill_lines-fills.ensures c.share_out.ensures)
     (c.tell.ensures ∙ (ap (λ n. g.P.SharingPolicy.told s.policy n c.imbalance-excess.result.0) c.args.self.now.counted ∙ ap (g.P.SharingPolicy.told s.policy (member_count s.rows)) c.imbalance-excess.ensures))
 
-pub invariant-of-self-2 : goal.invariant-of-self-2
-invariant-of-self-2 g c =
+pub invariant_of-self-2 : goal.invariant_of-self-2
+invariant_of-self-2 g c =
     let s : State g.row.P.Denot = view c.args.self.now in
     let n : ℕ = vec_len c.args.self.now.rows in
     let few : length s.lines ≤ 4096 = omega arith in

@@ -28,9 +28,9 @@ returns-in_err-check_dues g c =
     let n : ℕ = c.len-rows.result in
     let count : n ≡ length (vec_items c.args.self.now.rows) = c.len-rows.ensures ∙ c.args.self.now.rows.ok.0 in
     let same : (k : ℕ) → k < n → due_in c.dues-dues.result k ≡ due k = λ k h. c.dues-dues.ensures k (omega (arith, c.len-rows.ensures)) in
-    let p = err_from_is_err_and c.from-residual.result c.from-residual.ensures.1 in
+    let p = err_from_is_err_and c.from_residual.result c.from_residual.ensures.1 in
     record {
       answer = p.1 ∙ ap Err p.2 ∙ (c.in_err-check_dues.ensures ∙ (covers-same m (due_in c.dues-dues.result) due n same ∙ ap (λ k. covers_all m due k) count));
-      after = made-not c.from-residual.result p.0 _ p.1;
-      kept = refused_all c.from-residual.result _ (λ y. refl);
+      after = made-not c.from_residual.result p.0 _ p.1;
+      kept = refused_all c.from_residual.result _ (λ y. refl);
     }
