@@ -1,5 +1,5 @@
 -- What the two books store, and what that means.
-use Rattle.std.specs.Prelude.{ℕ, ◌+◌, ◌-◌, cond, ◌&&◌, List, length, Some, None, vec_items, Option, nat_le, nat_lt, slice_index_or}
+use Rattle.std.specs.Prelude.{◌+◌, ◌-◌, cond, ◌&&◌, List, length, Some, None, vec_items, Option, nat_le, nat_lt, slice_index_or}
 use Rattle.books.specs.declared.balance.Balance.{Balance}
 use Rattle.books.specs.declared.bank_line.BankLine.{BankLine}
 use Rattle.books.specs.declared.bank_line.BankLineBook.{BankLineBook}

@@ -1,5 +1,5 @@
-use Rattle.std.specs.Prelude.{◌≡◌, ℕ, zero, suc, ◌+◌, ◌-◌, ◌*◌, ◌/◌, ◌%◌, ◌<◌, ◌≤◌, min, Bool, true, false, cond, ◌&&◌, ◌⊎◌, nat_lt, refl}
-use Rattle.std.proofs.Common.{inl, inr, ⊎_elim, sym, ◌∙◌, ap, suc-mul, mod-lt, mod-eq_of_lt, arith}
+use Rattle.std.specs.Prelude.{◌≡◌, ℕ, zero, suc, ◌+◌, ◌-◌, ◌*◌, ◌/◌, ◌%◌, ◌<◌, ◌≤◌, min, Bool, true, cond, ◌⊎◌, nat_lt}
+use Rattle.std.proofs.Common.{⊎_elim, ◌∙◌, ap, suc-mul, mod-lt, mod-eq_of_lt, arith}
 use Rattle.std.proofs.Math.Nat.{div-add-mod, add-mod_right}
 use Rattle.std.proofs.lemmas.Bool.Decides.{nat_tests}
 use Rattle.sharing.specs.Shares.{in_bounds, below, shared_out, table_extra, start_of, turn_extra}

@@ -1,7 +1,6 @@
 use Rattle.std.proofs.Common.{◌≤◌, arith, rules}
 use Rattle.std.proofs.lemmas.List.Sums.{sum_by_more}
 use Rattle.std.proofs.lemmas.List.{take_all}
-use Rattle.session.specs.Means.{nearest}
 use Rattle.session.proofs.Averages.{nearest-le}
 use Rattle.session.proofs.means.executed_mean.Given as given
 use Rattle.session.proofs.means.executed_mean.Goals as goal
