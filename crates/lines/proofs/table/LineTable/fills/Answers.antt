@@ -1,10 +1,8 @@
-use Rattle.std.proofs.Common.{◌≡◌, ℕ, ◌<◌, ◌≤◌, true, List, length, get_or, take, sym, ap, ◌∙◌, subst, arith, rules}
+use Rattle.std.proofs.Common.{◌≡◌, ℕ, true, List, length, take, sym, ap, ◌∙◌, subst, arith, rules}
 use Rattle.rounds.specs.Sides.{other}
-use Rattle.rounds.specs.declared.sides.Side.{Side}
-use Rattle.rounds.specs.declared.sides.Side.TheVariants.{Buy, Sell}
 use Rattle.sharing.specs.Shares.{in_bounds, below}
 use Rattle.lines.specs.Entries.{lines_of}
-use Rattle.lines.specs.Fills.{no_fill, filled_on, shares_of, fills_of, Level}
+use Rattle.lines.specs.Fills.{shares_of, fills_of, Level}
 use Rattle.lines.specs.Lines.{lawful, lots_on, of_row, imbalance, excess}
 use Rattle.participants.specs.Participants.{member_count}
 use Rattle.participants.specs.Rosters.{rows_of}
@@ -14,7 +12,7 @@ use Rattle.participants.specs.declared.rows.Participant.{Participant}
 use Rattle.lines.proofs.Levels.{sheet-level, shared-out, in_bounds_lem}
 use Rattle.lines.proofs.Owed.{row-le}
 use Rattle.lines.proofs.Shared.{fills-from}
-use Rattle.lines.proofs.Totals.{lawful-wider, lots-all, standing-le}
+use Rattle.lines.proofs.Totals.{lawful-wider, lots-all}
 use Rattle.lines.proofs.table.LineTable.fills.Goals as goal
 
 pub fill_lines-fills-requires : goal.fill_lines-fills-requires

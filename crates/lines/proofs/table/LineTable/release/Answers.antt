@@ -2,7 +2,7 @@ use Rattle.std.proofs.Common.{◌≡◌, ℕ, ◌<◌, List, Err, vec_items, ref
 use Rattle.std.proofs.lemmas.Result.{err_from_is_err_and}
 use Rattle.books.specs.Accounts.{Accounts}
 use Rattle.lines.specs.Lines.{due_to}
-use Rattle.lines.specs.Striking.{due_in, covers_all, released_all}
+use Rattle.lines.specs.Striking.{due_in}
 use Rattle.lines.specs.declared.line.Line.{Line}
 use Rattle.rounds.proofs.Refusals.{made-not, refused_all}
 use Rattle.lines.proofs.Releases.{covers-same, released-same}

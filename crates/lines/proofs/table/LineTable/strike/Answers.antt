@@ -1,4 +1,4 @@
-use Rattle.std.proofs.Common.{◌≡◌, Bool, cond, List, Err, vec_items, refl, ap, ◌∙◌, arith, rules}
+use Rattle.std.proofs.Common.{Bool, cond, List, Err, refl, ap, ◌∙◌, rules}
 use Rattle.std.proofs.lemmas.Result.{err_from_is_err_and}
 use Rattle.lines.specs.Entries.{lines_of}
 use Rattle.lines.specs.Lines.{line_due, standing}

@@ -1,7 +1,7 @@
-use Rattle.std.proofs.Common.{◌≡◌, ◌-◌, ◌≤◌, vec_items, ap, ◌∙◌, arith, rules}
+use Rattle.std.proofs.Common.{◌-◌, ◌≤◌, vec_items, ap, ◌∙◌, arith, rules}
 use Rattle.participants.specs.Means.{tallied}
 use Rattle.participants.specs.declared.tally.Tally.{Tally}
-use Rattle.participants.proofs.Averages.{Kept, nearest-le, nearest-ge, kept_at}
+use Rattle.participants.proofs.Averages.{nearest-le, nearest-ge, kept_at}
 use Rattle.participants.proofs.Tallied.{tallies}
 use Rattle.participants.proofs.quotes.Quotes.mean.Goals as goal
 
