@@ -89,7 +89,7 @@ impl<C, P, B> Engine<C, P, B> {
     {
         match std::mem::replace(&mut self.held, Held::Order(order)) {
             Held::Nothing => {}
-            Held::Order(_) => unreachable(),
+            Held::Order(_earlier) => unreachable(),
         }
     }
 

@@ -1,6 +1,6 @@
 -- Figures written one by one as the words of a message.
 use Rattle.std.proofs.Common.{◌≡◌, ℕ, suc, ◌+◌, ◌-◌, ◌^◌, ◌<◌, ◌≤◌, Bool, true, false, cond, List, [], ◌∷◌, ◌++◌, length, get_or, take, drop, set, Some, None, Ok, Err, Option, sym, refl, ap, ◌∙◌, arith}
-use Rattle.std.specs.List.{AllByRecursion as All}
+use Rattle.std.specs.List.{AllByRecursion}
 use Rattle.std.proofs.lemmas.List.{at_drop_more, at_drop_all, drop_more, take_more, take_rest, take-append-drop, length-drop, length-take-le, set_at, append-nil, append_assoc}
 use Rattle.std.proofs.lemmas.Bool.{lt-ltb, le-ltb, cond-true, cond-false, false≢true}
 use Rattle.std.proofs.lemmas.Bool.Decides.{nat_tests}
@@ -31,7 +31,7 @@ fits-here i r false e = absurd (grind arith)
 writable-fits : (i f : ℕ) → writable i f ≡ true → f < 2 ^ 28
 writable-fits i f e = grind (arith, nat_tests)
 
-pub fits-from-over : (fs : List ℕ) (i : ℕ) → first_over i fs ≡ None → All (λ f. f < 2 ^ 28) fs
+pub fits-from-over : (fs : List ℕ) (i : ℕ) → first_over i fs ≡ None → AllByRecursion (λ f. f < 2 ^ 28) fs
 fits-from-over [] i e = tt
 fits-from-over (f ∷ fs) i e = let h = fits-here i (first_over (i + 1) fs) (writable i f) e in (writable-fits i f h.0, fits-from-over fs (i + 1) h.1)
 

@@ -1,6 +1,6 @@
 -- The round trips between calls and messages.
 use Rattle.std.proofs.Common.{◌≡◌, ℕ, zero, suc, ◌+◌, ◌*◌, ◌/◌, ◌%◌, ◌^◌, ◌<◌, ◌≤◌, Bool, true, false, cond, eqb, ltb, ◌⊎◌, List, [], ◌∷◌, ◌++◌, map, length, get_or, take, drop, IfOk, IfErr, Some, None, Ok, Err, Option, Result, sym, refl, ap, ◌∙◌, subst, inl, inr, ⊎_elim, arith}
-use Rattle.std.specs.List.{AllByRecursion as All}
+use Rattle.std.specs.List.{AllByRecursion}
 use Rattle.std.proofs.lemmas.Bool.{false≢true, eqb-true, eq-eqb, leb-true}
 use Rattle.std.proofs.lemmas.Bool.Decides.{nat_tests}
 use Rattle.std.proofs.lemmas.List.{drop_more, drop_all, take_at}
@@ -61,14 +61,14 @@ stamped-figures more (k ∷ ks) i (w ∷ ws) e =
 
 -- ---- the figures of a call, stamped, match
 
-matched-stamped : (more left : List Kind) (i : ℕ) (fs : List ℕ) → counted more left fs ≡ true → All (λ f. f < 2 ^ 28) fs → matched more left i (stamped more left fs) ≡ Ok tt
+matched-stamped : (more left : List Kind) (i : ℕ) (fs : List ℕ) → counted more left fs ≡ true → AllByRecursion (λ f. f < 2 ^ 28) fs → matched more left i (stamped more left fs) ≡ Ok tt
 matched-stamped more [] i [] c h = refl
 matched-stamped more (k ∷ ks) i [] c h = absurd (false≢true c)
 matched-stamped [] [] i (f ∷ fs) c h = absurd (false≢true c)
 matched-stamped (m ∷ ms) [] i (f ∷ fs) c h = simp (kind-word m f) (matched-stamped (m ∷ ms) ms (i + 1) fs c h.1)
 matched-stamped more (k ∷ ks) i (f ∷ fs) c h = simp (kind-word k f) (matched-stamped more ks (i + 1) fs c h.1)
 
-figures-stamped : (more left : List Kind) (fs : List ℕ) → All (λ f. f < 2 ^ 28) fs → counted more left fs ≡ true → map figure_of (stamped more left fs) ≡ fs
+figures-stamped : (more left : List Kind) (fs : List ℕ) → AllByRecursion (λ f. f < 2 ^ 28) fs → counted more left fs ≡ true → map figure_of (stamped more left fs) ≡ fs
 figures-stamped more left [] h c = refl
 figures-stamped [] [] (f ∷ fs) h c = absurd (false≢true c)
 figures-stamped (m ∷ ms) [] (f ∷ fs) h c = cc (figure-word m f h.0, figures-stamped (m ∷ ms) ms fs h.1 c)
@@ -102,11 +102,11 @@ verb-word OpenSilver = refl
 
 -- ---- a call that is written and read
 
-paired-flat : (rows : List OpenRow) → All (λ f. f < 2 ^ 28) (flat rows) → paired (flat rows) ≡ rows
+paired-flat : (rows : List OpenRow) → AllByRecursion (λ f. f < 2 ^ 28) (flat rows) → paired (flat rows) ≡ rows
 paired-flat [] h = refl
 paired-flat (r ∷ rs) h = cc (row_back r h.0, paired-flat rs h.1.1)
 
-rows_back : (rows : List OpenRow) → All (λ f. f < 2 ^ 28) (flat rows) → paired (map figure_of (stamped (kind.Participant ∷ kind.Millions ∷ []) [] (flat rows))) ≡ rows
+rows_back : (rows : List OpenRow) → AllByRecursion (λ f. f < 2 ^ 28) (flat rows) → paired (map figure_of (stamped (kind.Participant ∷ kind.Millions ∷ []) [] (flat rows))) ≡ rows
 rows_back rows h = ap paired (figures-stamped _ [] (flat rows) h (counted-rows rows)) ∙ paired-flat rows h
 
 call_back : (c : Said) → Fits c → call_of (verb_in c) (words_of c) ≡ c

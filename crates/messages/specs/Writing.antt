@@ -1,5 +1,5 @@
 use Rattle.std.specs.Prelude.{ℕ, ◌+◌, ◌^◌, ◌<◌, Bool, true, false, cond, ◌&&◌, List, [], ◌∷◌, ◌++◌, length, drop, Some, None, Ok, Err, Option, Result, nat_lt}
-use Rattle.std.specs.List.{AllByRecursion as All}
+use Rattle.std.specs.List.{AllByRecursion}
 use Rattle.messages.specs.declared.calls.Metal.{Metal}
 use Rattle.messages.specs.declared.calls.Metal.TheVariants.{Gold, Silver}
 use Rattle.messages.specs.declared.faults.MessageFault.{MessageFault}
@@ -83,7 +83,7 @@ words_of c = stamped (again (verb_in c)) (first (verb_in c)) (figures c)
 
 -- the figures of a call have at most 28 bits
 abbrev pub Fits : Said → Type 0
-Fits c = All (λ f. f < 2 ^ 28) (figures c)
+Fits c = AllByRecursion (λ f. f < 2 ^ 28) (figures c)
 
 -- a word holds a figure of 28 bits, and a list of words has places below 16,384
 abbrev pub writable : ℕ → ℕ → Bool

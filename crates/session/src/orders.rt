@@ -3,18 +3,10 @@
 use crate::faults::SessionFault;
 use crate::session::Session;
 
-/// Out as long as its session is suspended. It cannot be let fall, and it is spent once: `reissue` and `announce` take it.
+/// Out as long as its session is suspended. It cannot be let fall, since it has no `Drop`, and it is spent once: `reissue`
+/// and `announce` take it.
 pub struct SuspensionOrder {
     round: u32,
-}
-
-impl Drop for SuspensionOrder {
-    /// Nobody can drop an order: a measure takes it apart.
-    fn drop(self)
-        requires { ⊥ }
-    {
-        let SuspensionOrder { round: _ } = self;
-    }
 }
 
 impl SuspensionOrder {
