@@ -1,17 +1,14 @@
 //! A book that stores a bank's line for each account, and what is drawn on it.
 
-ghost use mathlib.Core.Path.{_≡_};
-ghost use Rattle·std.specs.Of.Vec.{vec-items};
-ghost use Rattle·books·specs.Stored.{lineAccounts, lineMeans, credited};
-use crate::balance::Balance;
-use crate::balance::MOST_HELD;
+ghost use Rattle.std.specs.Prelude.{◌≡◌};
+ghost use Rattle.books.specs.Stored.{line_accounts, line_means, credited};
+ghost use Rattle.std.proofs.Common.{rules};
+
+use crate::balance::{Balance, MOST_HELD};
 use crate::book::MarginBook;
-use crate::checks::freezable;
-use crate::checks::releasable;
+use crate::checks::{freezable, releasable};
 use crate::faults::BookFault;
 use measures::Fen;
-use measures::FenDebug;
-use measures::FenPartialEq;
 
 /// A line of a bank: `line` is the most that may be frozen, `drawn` is what is frozen now.
 #[derive(Clone, Copy, PartialEq, Eq, Debug)]
@@ -28,7 +25,7 @@ pub struct BankLineBook {
 
 /// What a stored line leaves free and has frozen, if it is within the bound and holds what is drawn.
 fn credited_balance(stored: BankLine) -> Option<Balance>
-    ensures { λ r. ⌜ r ≡ credited stored ⌝ }
+    ensures { result ≡ credited stored }
 {
     if stored.line.0 <= MOST_HELD.0 && stored.drawn.0 <= stored.line.0 {
         Some(Balance {
@@ -43,14 +40,16 @@ fn credited_balance(stored: BankLine) -> Option<Balance>
 impl BankLineBook {
     /// A book that stores these lines.
     pub fn new(accounts: Vec<BankLine>) -> BankLineBook
-        ensures { λ r. ⌜ lineAccounts r ≡ lineMeans (vec-items accounts) ⌝ }
+        ensures { line_accounts result ≡ line_means accounts.items }
     {
         BankLineBook { accounts }
     }
 }
 
-pub impl MarginBook for BankLineBook as BankLineMargin {
-    ghost means = { lineAccounts };
+impl MarginBook for BankLineBook {
+    ghost means = { line_accounts };
+
+    ghost bounded = { Prim.search rules };
 
     fn balance(&self, account: u32) -> Option<Balance> {
         let place = account as usize;

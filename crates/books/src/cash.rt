@@ -1,13 +1,12 @@
 //! A book that stores both sums of each account.
 
-ghost use mathlib.Core.Path.{_≡_};
-ghost use Rattle·std.specs.Of.Vec.{vec-items};
-ghost use Rattle·books·specs.Stored.{cashAccounts, cashMeans, known};
-use crate::balance::Balance;
-use crate::balance::MOST_HELD;
+ghost use Rattle.std.specs.Prelude.{◌≡◌};
+ghost use Rattle.books.specs.Stored.{cash_accounts, cash_means, known};
+ghost use Rattle.std.proofs.Common.{rules};
+
+use crate::balance::{Balance, MOST_HELD};
 use crate::book::MarginBook;
-use crate::checks::freezable;
-use crate::checks::releasable;
+use crate::checks::{freezable, releasable};
 use crate::faults::BookFault;
 use measures::Fen;
 
@@ -19,7 +18,7 @@ pub struct CashBook {
 
 /// A stored balance, if its sums are together within the bound.
 fn known_balance(stored: Balance) -> Option<Balance>
-    ensures { λ r. ⌜ r ≡ known stored ⌝ }
+    ensures { result ≡ known stored }
 {
     if stored.free.0 <= MOST_HELD.0 && stored.frozen.0 <= MOST_HELD.0 - stored.free.0 {
         Some(stored)
@@ -31,14 +30,16 @@ fn known_balance(stored: Balance) -> Option<Balance>
 impl CashBook {
     /// A book that stores these accounts.
     pub fn new(accounts: Vec<Balance>) -> CashBook
-        ensures { λ r. ⌜ cashAccounts r ≡ cashMeans (vec-items accounts) ⌝ }
+        ensures { cash_accounts result ≡ cash_means accounts.items }
     {
         CashBook { accounts }
     }
 }
 
-pub impl MarginBook for CashBook as CashMargin {
-    ghost means = { cashAccounts };
+impl MarginBook for CashBook {
+    ghost means = { cash_accounts };
+
+    ghost bounded = { Prim.search rules };
 
     fn balance(&self, account: u32) -> Option<Balance> {
         let place = account as usize;

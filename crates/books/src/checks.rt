@@ -1,18 +1,15 @@
 //! What a book checks before it writes.
 
-ghost use mathlib.Core.Path.{_≡_};
-ghost use Prim.Native.Nat.{_≤_};
-ghost use Rattle·std.specs.declared.option.Option.the-variants.{Some};
-ghost use Rattle·std.specs.declared.result.Result.the-variants.{Err};
-ghost use Rattle·std.specs.Results.{Cases};
-ghost use Rattle·books·specs.Accounts.{freezing, releasing};
+ghost use Rattle.std.specs.Prelude.{◌≡◌, ◌≤◌, Some, Err, MatchResult};
+ghost use Rattle.books.specs.Accounts.{freezing, releasing};
+
 use crate::balance::Balance;
 use crate::faults::BookFault;
 use measures::Fen;
 
 /// The balance that an amount can be frozen in, or why it cannot.
 pub(crate) fn freezable(held: Option<Balance>, amount: Fen) -> Result<Balance, BookFault>
-    ensures { λ r. ⌜ Cases r (λ b. (held ≡ Some b) × (amount .0 ≤ b .free .0)) (λ f. freezing held (amount .0) ≡ Err f) ⌝ }
+    ensures { MatchResult result (λ b. (held ≡ Some b) × (amount.0 ≤ b.free.0)) (λ f. freezing held amount.0 ≡ Err f) }
 {
     match held {
         None => Err(BookFault::Unknown),
@@ -23,7 +20,7 @@ pub(crate) fn freezable(held: Option<Balance>, amount: Fen) -> Result<Balance, B
 
 /// The balance that an amount can be released in, or why it cannot.
 pub(crate) fn releasable(held: Option<Balance>, amount: Fen) -> Result<Balance, BookFault>
-    ensures { λ r. ⌜ Cases r (λ b. (held ≡ Some b) × (amount .0 ≤ b .frozen .0)) (λ f. releasing held (amount .0) ≡ Err f) ⌝ }
+    ensures { MatchResult result (λ b. (held ≡ Some b) × (amount.0 ≤ b.frozen.0)) (λ f. releasing held amount.0 ≡ Err f) }
 {
     match held {
         None => Err(BookFault::Unknown),

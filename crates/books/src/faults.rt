@@ -1,7 +1,7 @@
 //! Why a book refuses.
 
-ghost use mathlib.Core.Path.{_≡_};
-ghost use Rattle·books·specs.Faults.{numberOf};
+ghost use Rattle.std.specs.Prelude.{◌≡◌};
+ghost use Rattle.books.specs.Faults.{number_of};
 
 /// A refusal of the book, with its number.
 #[derive(Clone, Copy, PartialEq, Eq, Debug)]
@@ -15,7 +15,7 @@ pub enum BookFault {
 impl BookFault {
     /// The number of the refusal.
     pub fn number(self) -> u32
-        ensures { λ r. ⌜ r ≡ numberOf self ⌝ }
+        ensures { result ≡ number_of self }
     {
         self as u32
     }

@@ -1,5 +1,7 @@
 //! The margin book: for each account its free and its frozen money.
 
+#![tactic(auto)]
+
 pub mod balance;
 pub mod bank_line;
 pub mod book;

@@ -1,10 +1,8 @@
 //! The quoted part of a contract: what trading and clearing alike need of it.
 
-ghost use mathlib.Core.Path.{_≡_};
-ghost use Prim.Native.Nat.{ℕ, _≤_};
-use measures::Fen;
-use measures::Kg;
-use measures::Lots;
+ghost use Rattle.std.specs.Prelude.{◌≡◌, ℕ, ◌≤◌};
+
+use measures::{Fen, Kg, Lots};
 
 /// A quoted contract. Each figure stands three times: the constant that the contract sets, the ghost member that clauses
 /// name, and the accessor that ties the two and that generic code reads.
@@ -26,33 +24,33 @@ pub trait QuotedContract {
 
     ghost largest: { ℕ };
 
-    law weight_low: { 1 ≤ weight };
-
-    law weight_high: { weight ≤ 1000 };
-
-    law worth_high: { worth ≤ 1500 };
-
-    law margin_low: { 1 ≤ margin };
-
-    law margin_high: { margin ≤ worth };
-
-    law largest_low: { 1 ≤ largest };
-
-    law largest_high: { largest ≤ 40000 };
-
     /// What one lot weighs.
     fn weight_of_lot() -> Kg
-        ensures { λ r. ⌜ r .0 ≡ weight ⌝ };
+        ensures { result.0 ≡ weight };
 
     /// What one tick is worth for one lot.
     fn tick_worth() -> Fen
-        ensures { λ r. ⌜ r .0 ≡ worth ⌝ };
+        ensures { result.0 ≡ worth };
 
     /// What one tick of the price of one lot freezes as margin.
     fn margin_figure() -> Fen
-        ensures { λ r. ⌜ r .0 ≡ margin ⌝ };
+        ensures { result.0 ≡ margin };
 
     /// The most lots of one tender.
     fn largest_tender() -> Lots
-        ensures { λ r. ⌜ r .0 ≡ largest ⌝ };
+        ensures { result.0 ≡ largest };
+
+    ghost weight_low: { 1 ≤ weight };
+
+    ghost weight_high: { weight ≤ 1000 };
+
+    ghost worth_high: { worth ≤ 1500 };
+
+    ghost margin_low: { 1 ≤ margin };
+
+    ghost margin_high: { margin ≤ worth };
+
+    ghost largest_low: { 1 ≤ largest };
+
+    ghost largest_high: { largest ≤ 40000 };
 }

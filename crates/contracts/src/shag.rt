@@ -1,18 +1,17 @@
 //! Shanghai silver.
 
-ghost use Rattle·contracts·specs.Steps.{shagStep};
+ghost use Rattle.contracts.specs.Steps.{shag_step};
+ghost use Rattle.std.proofs.Common.{rules};
+
 use crate::fixing::FixingContract;
 use crate::quoted::QuotedContract;
-use measures::Fen;
-use measures::Kg;
-use measures::Lots;
-use measures::Ticks;
+use measures::{Fen, Kg, Lots, Ticks};
 
 /// Silver: a lot is fifteen kilograms, a tick 1 yuan a kilogram.
 #[derive(Clone, Copy, Debug)]
 pub struct Shag;
 
-pub impl QuotedContract for Shag as ShagQuoted {
+impl QuotedContract for Shag {
     const LOT_WEIGHT: Kg = Kg(15);
 
     const FEN: Fen = Fen(1_500);
@@ -28,6 +27,20 @@ pub impl QuotedContract for Shag as ShagQuoted {
     ghost margin = { 150 };
 
     ghost largest = { 40000 };
+
+    ghost weight_low = { Prim.search rules };
+
+    ghost weight_high = { Prim.search rules };
+
+    ghost worth_high = { Prim.search rules };
+
+    ghost margin_low = { Prim.search rules };
+
+    ghost margin_high = { Prim.search rules };
+
+    ghost largest_low = { Prim.search rules };
+
+    ghost largest_high = { Prim.search rules };
 
     fn weight_of_lot() -> Kg {
         Self::LOT_WEIGHT
@@ -46,12 +59,20 @@ pub impl QuotedContract for Shag as ShagQuoted {
     }
 }
 
-pub impl FixingContract for Shag as ShagFixing {
+impl FixingContract for Shag {
     const THRESHOLD: Lots = Lots(600);
 
     ghost threshold = { 600 };
 
-    ghost step = { shagStep };
+    ghost step = { shag_step };
+
+    ghost threshold_high = { Prim.search rules };
+
+    ghost step_none = { Prim.search rules };
+
+    ghost step_low = { Prim.search rules };
+
+    ghost step_high = { Prim.search rules };
 
     fn threshold_lots() -> Lots {
         Self::THRESHOLD

@@ -1,18 +1,17 @@
 //! Shanghai gold.
 
-ghost use Rattle·contracts·specs.Steps.{shauStep};
+ghost use Rattle.contracts.specs.Steps.{shau_step};
+ghost use Rattle.std.proofs.Common.{rules};
+
 use crate::fixing::FixingContract;
 use crate::quoted::QuotedContract;
-use measures::Fen;
-use measures::Kg;
-use measures::Lots;
-use measures::Ticks;
+use measures::{Fen, Kg, Lots, Ticks};
 
 /// Gold: a lot is a kilogram, a tick 0.01 yuan a gram.
 #[derive(Clone, Copy, Debug)]
 pub struct Shau;
 
-pub impl QuotedContract for Shau as ShauQuoted {
+impl QuotedContract for Shau {
     const LOT_WEIGHT: Kg = Kg(1);
 
     const FEN: Fen = Fen(1_000);
@@ -28,6 +27,20 @@ pub impl QuotedContract for Shau as ShauQuoted {
     ghost margin = { 60 };
 
     ghost largest = { 10000 };
+
+    ghost weight_low = { Prim.search rules };
+
+    ghost weight_high = { Prim.search rules };
+
+    ghost worth_high = { Prim.search rules };
+
+    ghost margin_low = { Prim.search rules };
+
+    ghost margin_high = { Prim.search rules };
+
+    ghost largest_low = { Prim.search rules };
+
+    ghost largest_high = { Prim.search rules };
 
     fn weight_of_lot() -> Kg {
         Self::LOT_WEIGHT
@@ -46,12 +59,20 @@ pub impl QuotedContract for Shau as ShauQuoted {
     }
 }
 
-pub impl FixingContract for Shau as ShauFixing {
+impl FixingContract for Shau {
     const THRESHOLD: Lots = Lots(400);
 
     ghost threshold = { 400 };
 
-    ghost step = { shauStep };
+    ghost step = { shau_step };
+
+    ghost threshold_high = { Prim.search rules };
+
+    ghost step_none = { Prim.search rules };
+
+    ghost step_low = { Prim.search rules };
+
+    ghost step_high = { Prim.search rules };
 
     fn threshold_lots() -> Lots {
         Self::THRESHOLD

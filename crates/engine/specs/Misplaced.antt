@@ -1,10 +1,8 @@
 -- A call that the stage never takes.
-use Prim.Native.Nat.{ℕ}
-use mathlib.Core.Bool.{cond}
-use lib.Dec.{ltb}
-use Rattle·rounds.specs.declared.faults.SessionFault.{SessionFault}
-use Rattle·rounds.specs.declared.faults.SessionFault.the-variants.{Time, WrongStage}
+use Rattle.std.specs.Prelude.{ℕ, cond, nat_lt}
+use Rattle.rounds.specs.declared.faults.SessionFault.{SessionFault}
+use Rattle.rounds.specs.declared.faults.SessionFault.TheVariants.{Time, WrongStage}
 
 -- its time is looked at first
-abbrev pub misplacedAt : ℕ → SessionFault
-misplacedAt time = cond (ltb 86399999 time) Time WrongStage
+abbrev pub misplaced_at : ℕ → SessionFault
+misplaced_at time = cond (nat_lt 86399999 time) Time WrongStage

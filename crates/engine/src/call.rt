@@ -1,29 +1,24 @@
 //! Answering a call.
 
-ghost use mathlib.Core.Path.{_≡_};
-ghost use Rattle·std.specs.Options.{Cases};
-ghost use Rattle·std.specs.Vec.{made, refused};
-ghost use Rattle·session.specs.Opening.{opened};
-ghost use Rattle·session.specs.State.{view, standingAt};
-ghost use Rattle·engine·specs.Misplaced.{misplacedAt};
-ghost use Rattle·engine·specs.declared.engine.Held.the-variants.{Nothing, Order};
-use crate::engine::Engine;
-use crate::engine::Held;
+ghost use Rattle.std.specs.Prelude.{◌≡◌, IfOk, IfErr, MatchOption, OnErr};
+ghost use Rattle.session.specs.Opening.{opened};
+ghost use Rattle.session.specs.State.{view, standing_at};
+ghost use Rattle.engine.specs.Misplaced.{misplaced_at};
+ghost use Rattle.engine.specs.declared.engine.Held.TheVariants.{Nothing, Order};
+
+use crate::engine::{Engine, Held};
 use books::book::MarginBook;
 use contracts::fixing::FixingContract;
 use measures::Ticks;
 use messages::answers::Answer;
 use messages::calls::Call;
 use messages::faults::MessageFault;
-use messages::faults::MessageFaultFromSession;
-use messages::prices::PricesListed;
 use participants::roster::Roster;
 use rounds::answers::Standing;
 use rounds::faults::SessionFault;
 use rounds::sides::Side;
 use session::open::RefusedOpening;
-use session::orders::RefusedMeasure;
-use session::orders::SuspensionOrder;
+use session::orders::{RefusedMeasure, SuspensionOrder};
 use session::session::Session;
 use sharing::policy::SharingPolicy;
 use std::alloc::Global;
@@ -33,7 +28,7 @@ const LAST_TIME: u32 = 86_399_999;
 
 /// Why a call is refused that this stage never takes.
 pub(crate) fn misplaced(time: u32) -> SessionFault
-    ensures { λ r. ⌜ r ≡ misplacedAt time ⌝ }
+    ensures { result ≡ misplaced_at time }
 {
     if time > LAST_TIME {
         SessionFault::Time
@@ -61,8 +56,8 @@ impl<C, P, B> Engine<C, P, B> {
         policy: P,
         book: B,
     ) -> Result<Engine<C, P, B>, Returned<P, B>>
-        ensures opened { λ r. ⌜ made r (λ e. (view (e .session) ≡ opened (R·Roster .listed (now (roster .entry))) time previous limit policy) × (e .book ≡ book)) ⌝ }
-        ensures refused { λ r. ⌜ refused r (λ e. (e .policy ≡ policy) × (e .book ≡ book)) ⌝ }
+        ensures opened { IfOk result (λ e. (view e.session ≡ opened (R.Roster.listed roster.now) time previous limit policy) × (e.book ≡ book)) }
+        ensures refused { IfErr result (λ e. (e.policy ≡ policy) × (e.book ≡ book)) }
     {
         match Session::open(heap, time, previous, roster, limit, policy) {
             Ok(session) => Ok(Engine {
@@ -80,28 +75,28 @@ impl<C, P, B> Engine<C, P, B> {
 
     /// Where the session stands.
     pub fn standing(&self) -> Standing
-        ensures { λ r. ⌜ r ≡ standingAt (view (now (self .entry) .session) .period) ⌝ }
+        ensures { result ≡ standing_at (view self.now.session).period }
     {
         self.session.standing()
     }
 
     /// Takes an order into the empty hand.
     fn keep(&mut self, order: SuspensionOrder)
-        requires { ⌜ now self .held ≡ Nothing ⌝ }
-        ensures session { λ _. ⌜ now (self .exit) .session ≡ now (self .entry) .session ⌝ }
-        ensures book { λ _. ⌜ now (self .exit) .book ≡ now (self .entry) .book ⌝ }
-        ensures held { λ _. ⌜ now (self .exit) .held ≡ Order order ⌝ }
+        requires { self.old.held ≡ Nothing }
+        ensures session { self.new.session ≡ self.old.session }
+        ensures book { self.new.book ≡ self.old.book }
+        ensures held { self.new.held ≡ Order order }
     {
         match std::mem::replace(&mut self.held, Held::Order(order)) {
             Held::Nothing => {}
-            Held::Order(_) => unreachable(),
+            Held::Order(_earlier) => unreachable(),
         }
     }
 
     /// Suspends the session, unless it is suspended: then its order is in hand.
     fn suspend(&mut self, time: u32) -> Result<Standing, SessionFault>
-        ensures book { λ _. ⌜ now (self .exit) .book ≡ now (self .entry) .book ⌝ }
-        ensures kept { λ r. ⌜ refused r (λ _. view (now (self .exit) .session) ≡ view (now (self .entry) .session)) ⌝ }
+        ensures book { self.new.book ≡ self.old.book }
+        ensures kept { OnErr result (view self.new.session ≡ view self.old.session) }
     {
         if let Held::Order(_) = &self.held {
             return Err(misplaced(time));
@@ -114,7 +109,7 @@ impl<C, P, B> Engine<C, P, B> {
 
 impl<C: FixingContract, P: SharingPolicy, B: MarginBook> Engine<C, P, B> {
     fn reissue(&mut self, time: u32, price: Ticks) -> Result<Standing, SessionFault>
-        ensures kept { λ r. ⌜ refused r (λ _. (view (now (self .exit) .session) ≡ view (now (self .entry) .session)) × (B·MarginBook .means (now (self .exit) .book) ≡ B·MarginBook .means (now (self .entry) .book))) ⌝ }
+        ensures kept { OnErr result ((view self.new.session ≡ view self.old.session) × (B.MarginBook.means self.new.book ≡ B.MarginBook.means self.old.book)) }
     {
         match std::mem::replace(&mut self.held, Held::Nothing) {
             Held::Nothing => Err(misplaced(time)),
@@ -134,7 +129,7 @@ impl<C: FixingContract, P: SharingPolicy, B: MarginBook> Engine<C, P, B> {
     }
 
     fn announce(&mut self, time: u32, price: Ticks) -> Result<Standing, SessionFault>
-        ensures kept { λ r. ⌜ refused r (λ _. (view (now (self .exit) .session) ≡ view (now (self .entry) .session)) × (B·MarginBook .means (now (self .exit) .book) ≡ B·MarginBook .means (now (self .entry) .book))) ⌝ }
+        ensures kept { OnErr result ((view self.new.session ≡ view self.old.session) × (B.MarginBook.means self.new.book ≡ B.MarginBook.means self.old.book)) }
     {
         match std::mem::replace(&mut self.held, Held::Nothing) {
             Held::Nothing => Err(misplaced(time)),
@@ -155,42 +150,38 @@ impl<C: FixingContract, P: SharingPolicy, B: MarginBook> Engine<C, P, B> {
 
     /// Answers a call. A refusal changes nothing.
     pub fn answer(&mut self, call: &Call) -> Result<Answer, MessageFault>
-        ensures kept { λ r. ⌜ refused r (λ _. (view (now (self .exit) .session) ≡ view (now (self .entry) .session)) × (B·MarginBook .means (now (self .exit) .book) ≡ B·MarginBook .means (now (self .entry) .book))) ⌝ }
+        ensures kept { OnErr result ((view self.new.session ≡ view self.old.session) × (B.MarginBook.means self.new.book ≡ B.MarginBook.means self.old.book)) }
     {
-        Ok(
-            match *call {
-                Call::Quote { time, row, price } => Answer::Standing(
-                    self.session.quote(time, row, price)?,
-                ),
-                Call::Begin { time, prices } => Answer::Standing(
-                    self.session.begin(time, &prices)?,
-                ),
-                Call::Buy { time, row, lots } => Answer::Tendered(
-                    self.session
-                        .tender(&mut self.book, time, row, Side::Buy, lots)?,
-                ),
-                Call::Sell { time, row, lots } => Answer::Tendered(
-                    self.session
-                        .tender(&mut self.book, time, row, Side::Sell, lots)?,
-                ),
-                Call::Reduce {
-                    time,
-                    row,
-                    line,
-                    lots,
-                } => Answer::Standing(self.session.reduce(&mut self.book, time, row, line, lots)?),
-                Call::Close { time } => Answer::Standing(self.session.close(&mut self.book, time)?),
-                Call::Suspend { time } => Answer::Standing(self.suspend(time)?),
-                Call::Reissue { time, price } => Answer::Standing(self.reissue(time, price)?),
-                Call::Announce { time, price } => Answer::Standing(self.announce(time, price)?),
-                Call::Open { time, .. } => return Err(MessageFault::Session(misplaced(time))),
-            },
-        )
+        Ok(match *call {
+            Call::Quote { time, row, price } => Answer::Standing(
+                self.session.quote(time, row, price)?,
+            ),
+            Call::Begin { time, prices } => Answer::Standing(self.session.begin(time, &prices)?),
+            Call::Buy { time, row, lots } => Answer::Tendered(
+                self.session
+                    .tender(&mut self.book, time, row, Side::Buy, lots)?,
+            ),
+            Call::Sell { time, row, lots } => Answer::Tendered(
+                self.session
+                    .tender(&mut self.book, time, row, Side::Sell, lots)?,
+            ),
+            Call::Reduce {
+                time,
+                row,
+                line,
+                lots,
+            } => Answer::Standing(self.session.reduce(&mut self.book, time, row, line, lots)?),
+            Call::Close { time } => Answer::Standing(self.session.close(&mut self.book, time)?),
+            Call::Suspend { time } => Answer::Standing(self.suspend(time)?),
+            Call::Reissue { time, price } => Answer::Standing(self.reissue(time, price)?),
+            Call::Announce { time, price } => Answer::Standing(self.announce(time, price)?),
+            Call::Open { time, .. } => return Err(MessageFault::Session(misplaced(time))),
+        })
     }
 
     /// Announces the Offered Price at the last accepted time, if the session is suspended.
     pub fn announce_if_suspended(&mut self) -> Option<Result<Standing, SessionFault>>
-        ensures { λ r. ⌜ Cases r ((view (now (self .exit) .session) ≡ view (now (self .entry) .session)) × (now (self .entry) .held ≡ Nothing)) (λ a. refused a (λ _. view (now (self .exit) .session) ≡ view (now (self .entry) .session))) ⌝ }
+        ensures { MatchOption result ((view self.new.session ≡ view self.old.session) × (self.old.held ≡ Nothing)) (λ a. OnErr a (view self.new.session ≡ view self.old.session)) }
     {
         if let Held::Nothing = &self.held {
             return None;

@@ -1,5 +1,7 @@
 //! One session with its book and the order in hand: it answers a call, a message and a whole list of words.
 
+#![tactic(auto)]
+
 pub mod call;
 pub mod engine;
 pub mod list;

@@ -1,54 +1,32 @@
 //! Answering a whole list of words, from the opening to the last word.
 
-ghost use mathlib.Core.List.{_∷_, []};
-ghost use mathlib.Core.Path.{_≡_};
-ghost use Prim.Native.Nat.{_<_};
-ghost use lib.ListN.{length};
-ghost use Rattle·std.specs.Of.Vec.{vec-items};
-ghost use Rattle·std.specs.Vec.{made};
-ghost use Rattle·std.specs.declared.option.Option.the-variants.{None};
-ghost use Rattle·std.specs.declared.result.Result.the-variants.{Err};
-ghost use Rattle·messages.specs.Answers.{answerWords};
-ghost use Rattle·messages.specs.declared.faults.MessageFault.the-variants.{Misfit};
-use crate::call::Returned;
-use crate::call::misplaced;
+ghost use Rattle.std.specs.Prelude.{◌≡◌, ◌<◌, [], ◌∷◌, length, IfOk, None, Err};
+ghost use Rattle.messages.specs.Answers.{answer_words};
+ghost use Rattle.messages.specs.declared.faults.MessageFault.TheVariants.{Misfit};
+
+use crate::call::{Returned, misplaced};
 use crate::engine::Engine;
 use crate::transcript::Transcript;
 use books::balance::Balance;
 use books::book::MarginBook;
 use books::cash::CashBook;
-use books::cash::CashMargin;
 use contracts::fixing::FixingContract;
 use contracts::shag::Shag;
-use contracts::shag::ShagFixing;
-use contracts::shag::ShagQuoted;
 use contracts::shau::Shau;
-use contracts::shau::ShauFixing;
-use contracts::shau::ShauQuoted;
-use measures::Fen;
-use measures::Ticks;
-use messages::answers::Answer;
-use messages::answers::answer_words;
-use messages::calls::Call;
-use messages::calls::Metal;
+use measures::{Fen, Ticks};
+use messages::answers::{Answer, answer_words};
+use messages::calls::{Call, Metal};
 use messages::faults::MessageFault;
-use messages::prices::PricesListed;
 use messages::reader::Reader;
-use messages::reader::ReaderMessages;
-use messages::reading::read;
-use messages::reading::verb_of;
+use messages::reading::{read, verb_of};
 use messages::rows::Rows;
-use messages::rows::RowsListed;
 use messages::verbs::Verb;
 use participants::roster::Roster;
 use rounds::faults::SessionFault;
 use rounds::stages::Stage;
-use rounds::stages::StagePartialEq;
 use session::lists::PriceList;
 use sharing::table_order::TableOrder;
-use sharing::table_order::TableOrderPolicy;
-use std::alloc::AllocError;
-use std::alloc::Global;
+use std::alloc::{AllocError, Global};
 
 /// How many lines a session has that is opened by a message.
 pub const LINES: usize = 1_024;
@@ -205,7 +183,7 @@ fn sheet_of<C, P, B>(heap: Global, engine: &Engine<C, P, B>) -> Result<Vec<u32>,
 
 /// Answers a whole list of words.
 pub fn answer_list(heap: Global, words: &[u32]) -> Result<Transcript, AllocError>
-    ensures too_long { λ r. ⌜ (16384 < length (now (words .entry)) → made r (λ t. (vec-items (t .answers) ≡ answerWords (Err (Misfit 16384)) None ∷ []) × (vec-items (t .sheet) ≡ []))) ⌝ }
+    ensures too_long { 16384 < length words.now → IfOk result (λ t. (t.answers.items ≡ answer_words (Err (Misfit 16384)) None ∷ []) × (t.sheet.items ≡ [])) }
 {
     let mut answers = Vec::with_capacity(heap, words.len().saturating_add(1))?;
     let mut reader = match Reader::over(words) {

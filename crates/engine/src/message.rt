@@ -1,29 +1,24 @@
 //! Answering a message.
 
-ghost use mathlib.Core.Path.{_≡_};
-ghost use Prim.Native.Nat.{_≤_, _<_};
-ghost use lib.ListN.{length};
-ghost use Rattle·std.specs.Vec.{refused};
-ghost use Rattle·std.specs.declared.result.Result.the-variants.{Err};
-ghost use Rattle·messages.specs.Answers.{answerWords};
-ghost use Rattle·messages.specs.Reading.{verbNamed};
-ghost use Rattle·messages.specs.declared.faults.MessageFault.the-variants.{Short};
-ghost use Rattle·session.specs.State.{view};
-ghost use Rattle·engine·specs.Fronts.{fronted};
+ghost use Rattle.std.specs.Prelude.{◌≡◌, ◌<◌, ◌≤◌, length, Err, OnErr};
+ghost use Rattle.messages.specs.Answers.{answer_words};
+ghost use Rattle.messages.specs.Reading.{verb_named};
+ghost use Rattle.messages.specs.declared.faults.MessageFault.TheVariants.{Short};
+ghost use Rattle.session.specs.State.{view};
+ghost use Rattle.engine.specs.Fronts.{fronted};
+
 use crate::engine::Engine;
 use books::book::MarginBook;
 use contracts::fixing::FixingContract;
-use messages::answers::Answer;
-use messages::answers::answer_words;
+use messages::answers::{Answer, answer_words};
 use messages::faults::MessageFault;
-use messages::reading::read;
-use messages::reading::verb_of;
+use messages::reading::{read, verb_of};
 use sharing::policy::SharingPolicy;
 
 /// Writes two words at the front.
 fn put(out: &mut [u32], words: [u32; 2])
-    requires { ⌜ 2 ≤ length (now out) ⌝ }
-    ensures { λ _. ⌜ now (out .exit) ≡ fronted (now (out .entry)) words ⌝ }
+    requires { 2 ≤ length out.old }
+    ensures { out.new ≡ fronted out.old words }
 {
     out[0] = words[0];
     out[1] = words[1];
@@ -32,7 +27,7 @@ fn put(out: &mut [u32], words: [u32; 2])
 impl<C: FixingContract, P: SharingPolicy, B: MarginBook> Engine<C, P, B> {
     /// Answers the call that a message makes.
     pub fn hear(&mut self, message: &[u32]) -> Result<Answer, MessageFault>
-        ensures kept { λ r. ⌜ refused r (λ _. (view (now (self .exit) .session) ≡ view (now (self .entry) .session)) × (B·MarginBook .means (now (self .exit) .book) ≡ B·MarginBook .means (now (self .entry) .book))) ⌝ }
+        ensures kept { OnErr result ((view self.new.session ≡ view self.old.session) × (B.MarginBook.means self.new.book ≡ B.MarginBook.means self.old.book)) }
     {
         let call = read(message)?;
         self.answer(&call)
@@ -44,9 +39,9 @@ impl<C: FixingContract, P: SharingPolicy, B: MarginBook> Engine<C, P, B> {
         message: &[u32],
         out: &mut [u32],
     ) -> Result<Answer, MessageFault>
-        ensures kept { λ r. ⌜ refused r (λ _. (view (now (self .exit) .session) ≡ view (now (self .entry) .session)) × (B·MarginBook .means (now (self .exit) .book) ≡ B·MarginBook .means (now (self .entry) .book))) ⌝ }
-        ensures short { λ r. ⌜ (length (now (out .entry)) < 2 → (r ≡ Err Short) × (now (out .exit) ≡ now (out .entry))) ⌝ }
-        ensures words { λ r. ⌜ (2 ≤ length (now (out .entry)) → now (out .exit) ≡ fronted (now (out .entry)) (answerWords r (verbNamed (now (message .entry))))) ⌝ }
+        ensures kept { OnErr result ((view self.new.session ≡ view self.old.session) × (B.MarginBook.means self.new.book ≡ B.MarginBook.means self.old.book)) }
+        ensures short { length out.old < 2 → (result ≡ Err Short) × (out.new ≡ out.old) }
+        ensures words { 2 ≤ length out.old → out.new ≡ fronted out.old (answer_words result (verb_named message.now)) }
     {
         if out.len() < 2 {
             return Err(MessageFault::Short);

@@ -10,7 +10,7 @@ pub struct Transcript {
 }
 
 /// Each word in hexadecimal, upper case, eight digits: a line an answer, then the sheet's price, then a line a row.
-pub impl fmt::Display for Transcript as TranscriptDisplay {
+impl fmt::Display for Transcript {
     fn fmt<W: fmt::Write>(&self, f: &mut fmt::Formatter<W>) -> fmt::Result {
         for words in self.answers.iter() {
             writeln!(f, "{:08X} {:08X}", words[0], words[1])?;

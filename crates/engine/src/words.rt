@@ -1,7 +1,6 @@
 //! Bytes as words.
 
-use std::alloc::AllocError;
-use std::alloc::Global;
+use std::alloc::{AllocError, Global};
 
 /// The words of a run of bytes, four bytes each, lowest first; a shorter rest is dropped.
 pub fn words_of(heap: Global, bytes: &[u8]) -> Result<Vec<u32>, AllocError> {

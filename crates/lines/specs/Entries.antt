@@ -1,41 +1,33 @@
 -- The line table, and what is entered in it.
-use Prim.Native.Nat.{ℕ}
-use mathlib.Core.Bool.{Bool, cond, _&&_, _||_}
-use mathlib.Core.List.{List}
-use lib.Dec.{leb, ltb}
-use lib.ListN.{length, getD}
-use Rattle·std.specs.Of.Vec.{vec-items}
-use Rattle·std.specs.declared.option.Option.{Option}
-use Rattle·std.specs.declared.option.Option.the-variants.{Some, None}
-use Rattle·std.specs.declared.result.Result.the-variants.{Ok, Err}
-use Rattle·rounds.specs.Gates.{Check}
-use Rattle·rounds.specs.declared.faults.SessionFault.the-variants.{LineLimit}
-use Rattle·lines·specs.Lines.{lawfulLine, noLine}
-use Rattle·lines·specs.declared.line.Line.{Line}
-use Rattle·lines·specs.declared.table.LineTable.{LineTable}
+use Rattle.std.specs.Prelude.{ℕ, Bool, cond, ◌&&◌, ◌||◌, List, length, Some, None, Ok, Err, vec_items, Option, nat_le, nat_lt, slice_index_or}
+use Rattle.rounds.specs.Gates.{Check}
+use Rattle.rounds.specs.declared.faults.SessionFault.TheVariants.{LineLimit}
+use Rattle.lines.specs.Lines.{lawful_line, no_line}
+use Rattle.lines.specs.declared.line.Line.{Line}
+use Rattle.lines.specs.declared.table.LineTable.{LineTable}
 
-abbrev pub linesOf : LineTable → List Line
-linesOf t = vec-items (t .lines)
+abbrev pub lines_of : LineTable → List Line
+lines_of t = vec_items t.lines
 
-abbrev pub limitOf : LineTable → ℕ
-limitOf t = t .limit
+abbrev pub limit_of : LineTable → ℕ
+limit_of t = t.limit
 
 -- how many participants the lines belong to
-abbrev pub widthOf : LineTable → ℕ
-widthOf t = t .rows
+abbrev pub width_of : LineTable → ℕ
+width_of t = t.rows
 
 -- a line table has room for 1 to 4,096 lines
-abbrev pub limitFits : ℕ → Check
-limitFits limit = cond (ltb limit 1 || ltb 4096 limit) (Err LineLimit) (Ok tt)
+abbrev pub limit_fits : ℕ → Check
+limit_fits limit = cond (nat_lt limit 1 || nat_lt 4096 limit) (Err LineLimit) (Ok tt)
 
 -- it is used up when the accepted tenders equal its limit
-abbrev pub usedUp : LineTable → Bool
-usedUp t = leb (limitOf t) (length (linesOf t))
+abbrev pub used_up : LineTable → Bool
+used_up t = nat_le (limit_of t) (length (lines_of t))
 
 -- a line can be entered where there is room for it and it keeps to its bounds
 abbrev pub holds : LineTable → Line → Bool
-holds t l = ltb (length (linesOf t)) (limitOf t) && lawfulLine (widthOf t) l
+holds t l = nat_lt (length (lines_of t)) (limit_of t) && lawful_line (width_of t) l
 
 -- the line of a number, if it was made
-abbrev pub lineAt : List Line → ℕ → Option Line
-lineAt ls i = cond (ltb i (length ls)) (Some (getD ls i noLine)) None
+abbrev pub line_at : List Line → ℕ → Option Line
+line_at ls i = cond (nat_lt i (length ls)) (Some (slice_index_or ls i no_line)) None

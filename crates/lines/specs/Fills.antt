@@ -1,66 +1,61 @@
 -- What a fix gives each row.
-use Prim.Native.Nat.{ℕ, _+_, _≤_}
-use mathlib.Core.Bool.{true, cond}
-use mathlib.Core.List.{List, map}
-use mathlib.Core.Path.{_≡_}
-use lib.ListN.{length, getD, take}
-use Rattle·std.specs.Iters.{counting}
-use Rattle·std.specs.shelf.Lists.{sumBy}
-use Rattle·rounds.specs.Sides.{sameSide, other}
-use Rattle·rounds.specs.declared.sides.Side.{Side}
-use Rattle·rounds.specs.declared.sides.Side.the-variants.{Buy, Sell}
-use Rattle·sharing.specs.Shares.{below}
-use Rattle·lines·specs.Lines.{lotsOn, ofRow, excess, imbalance}
-use Rattle·participants.specs.Participants.{nobody, isFixing, memberCount}
-use Rattle·lines·specs.declared.fills.Fill.{Fill}
-use Rattle·lines·specs.declared.line.Line.{Line}
-use Rattle·participants.specs.declared.rows.Participant.{Participant}
+use Rattle.std.specs.Prelude.{◌≡◌, ℕ, ◌+◌, ◌≤◌, true, cond, List, map, length, take, sum_by, slice_index_or}
+use Rattle.std.specs.List.{range_with_len}
+use Rattle.rounds.specs.Sides.{same_side, other}
+use Rattle.rounds.specs.declared.sides.Side.{Side}
+use Rattle.rounds.specs.declared.sides.Side.TheVariants.{Buy, Sell}
+use Rattle.sharing.specs.Shares.{below}
+use Rattle.lines.specs.Lines.{lots_on, of_row, excess, imbalance}
+use Rattle.participants.specs.Participants.{nobody, is_fixing, member_count}
+use Rattle.lines.specs.declared.fills.Fill.{Fill}
+use Rattle.lines.specs.declared.line.Line.{Line}
+use Rattle.participants.specs.declared.rows.Participant.{Participant}
 
-abbrev pub noFill : Fill
-noFill = record { bought = record { 0 = 0 }; sold = record { 0 = 0 } }
+abbrev pub no_fill : Fill
+no_fill = record { bought = record { 0 = 0 }; sold = record { 0 = 0 } }
 
 -- the lots of a fill on a side
-abbrev pub filledOn : Side → Fill → ℕ
-filledOn Buy f = f .bought .0
-filledOn Sell f = f .sold .0
+abbrev pub filled_on : Side → Fill → ℕ
+filled_on Buy f = f.bought.0
+filled_on Sell f = f.sold.0
 
 -- a fill with more lots on a side
 abbrev pub filled : Fill → Side → ℕ → Fill
-filled f Buy n = record { bought = record { 0 = f .bought .0 + n }; sold = f .sold }
-filled f Sell n = record { bought = f .bought; sold = record { 0 = f .sold .0 + n } }
+filled f Buy n = record { bought = record { 0 = f.bought.0 + n }; sold = f.sold }
+filled f Sell n = record { bought = f.bought; sold = record { 0 = f.sold.0 + n } }
 
 -- the place of a row among the Fixing Members
-abbrev pub placeOf : List Participant → ℕ → ℕ
-placeOf rows row = memberCount (take row rows)
+abbrev pub place_of : List Participant → ℕ → ℕ
+place_of rows row = member_count (take row rows)
 
 -- a Fixing Member has the share of its place, and nobody else has one
-abbrev pub shareOf : (ℕ → ℕ) → List Participant → ℕ → ℕ
-shareOf share rows row = cond (isFixing (getD rows row nobody .kind)) (share (placeOf rows row)) 0
+abbrev pub share_of : (ℕ → ℕ) → List Participant → ℕ → ℕ
+share_of share rows row = cond (is_fixing (slice_index_or rows row nobody).kind) (share (place_of rows row)) 0
 
 -- the shares of the places: a policy, as it stands, shares the excess among the Fixing Members
-abbrev pub sharesOf : {P : Type 0} → (P → ℕ → ℕ → ℕ → ℕ) → P → List Participant → List Line → ℕ → ℕ
-sharesOf share p rows ls = share p (memberCount rows) (imbalance ls)
+abbrev pub shares_of : {P : Type 0} → (P → ℕ → ℕ → ℕ → ℕ) → P → List Participant → List Line → ℕ → ℕ
+shares_of share p rows ls = share p (member_count rows) (imbalance ls)
 
 -- the shares of the rows sum to what is shared, and those of any two Fixing Members differ by one lot at most
 pub record Shared (share : ℕ → ℕ) (rows : List Participant) (q : ℕ) : Type 0 where
-  pub whole : below (length rows) (shareOf share rows) ≡ q
-  pub even : (i j : ℕ) → isFixing (getD rows i nobody .kind) ≡ true → isFixing (getD rows j nobody .kind) ≡ true → shareOf share rows i ≤ shareOf share rows j + 1
+  pub whole : below (length rows) (share_of share rows) ≡ q
+  pub even : (i j : ℕ) → is_fixing (slice_index_or rows i nobody).kind ≡ true → is_fixing (slice_index_or rows j nobody).kind ≡ true → share_of share rows i ≤ share_of share rows j + 1
 
 -- a row's standing lots on a side are filled whole; the excess is shared on the other side
-abbrev pub lotsFilled : (ℕ → ℕ) → List Participant → List Line → Side → ℕ → ℕ
-lotsFilled share rows ls side row = ofRow (lotsOn side) ls row + cond (sameSide (other (excess ls)) side) (shareOf share rows row) 0
+abbrev pub lots_filled : (ℕ → ℕ) → List Participant → List Line → Side → ℕ → ℕ
+lots_filled share rows ls side row = of_row (lots_on side) ls row + cond (same_side (other (excess ls)) side) (share_of share rows row) 0
 
-abbrev pub fillOf : (ℕ → ℕ) → List Participant → List Line → ℕ → Fill
-fillOf share rows ls row = record { bought = record { 0 = lotsFilled share rows ls Buy row }; sold = record { 0 = lotsFilled share rows ls Sell row } }
+abbrev pub fill_of : (ℕ → ℕ) → List Participant → List Line → ℕ → Fill
+fill_of share rows ls row = record { bought = record { 0 = lots_filled share rows ls Buy row }; sold = record { 0 = lots_filled share rows ls Sell row } }
 
 -- a fill for each of 256 rows: one beyond the table has neither lines nor a share
-unfoldable pub fillsOf : (ℕ → ℕ) → List Participant → List Line → List Fill
-fillsOf share rows ls = map (fillOf share rows ls) (counting 0 256)
+unfoldable pub fills_of : (ℕ → ℕ) → List Participant → List Line → List Fill
+fills_of share rows ls = map (fill_of share rows ls) (range_with_len 0 256)
 
 -- all lots of some fills on a side
-abbrev pub totalOn : Side → List Fill → ℕ
-totalOn side fs = sumBy (filledOn side) fs
+abbrev pub total_on : Side → List Fill → ℕ
+total_on side fs = sum_by (filled_on side) fs
 
 -- as many lots are bought as sold
 abbrev pub Level : List Fill → Type 0
-Level fs = totalOn Buy fs ≡ totalOn Sell fs
+Level fs = total_on Buy fs ≡ total_on Sell fs

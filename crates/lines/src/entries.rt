@@ -1,27 +1,18 @@
 //! What is entered in the line table, and what the table answers.
 
-ghost use mathlib.Core.Path.{_≡_};
-ghost use mathlib.Core.Bool.{true, cond};
-ghost use mathlib.Core.List.{_++_, _∷_, [], map};
-ghost use Prim.Native.Nat.{_<_, _≤_};
-ghost use lib.ListN.{length, getD, set};
-ghost use Rattle·std.specs.Of.Vec.{vec-items, vec-len, vec-cap};
-ghost use Rattle·std.specs.Slices.{found};
-ghost use Rattle·std.specs.Vec.{made};
-ghost use Rattle·std.specs.declared.option.Option.the-variants.{Some, None};
-ghost use Rattle·rounds.specs.Memory.{Refuses};
-ghost use Rattle·lines·specs.Entries.{linesOf, limitOf, widthOf, limitFits, usedUp, holds, lineAt};
-ghost use Rattle·lines·specs.Lines.{lawfulLine, struck, noLine, reduced, imbalance, excess};
-ghost use Rattle·participants.specs.Rosters.{rowsOf};
+ghost use Rattle.std.specs.Prelude.{◌≡◌, ◌<◌, ◌≤◌, true, [], ◌∷◌, ◌++◌, map, length, IfSome, IfOk, if◌then◌else◌, Some, None, vec_len, vec_capacity, OnOk, slice_index_or, slice_set};
+ghost use Rattle.rounds.specs.Memory.{Refuses};
+ghost use Rattle.lines.specs.Entries.{lines_of, limit_of, width_of, limit_fits, used_up, holds, line_at};
+ghost use Rattle.lines.specs.Lines.{lawful_line, struck, no_line, reduced, imbalance, excess};
+ghost use Rattle.participants.specs.Rosters.{rows_of};
+
 use crate::line::Line;
 use crate::table::LineTable;
 use measures::Lots;
 use participants::table::Participants;
 use rounds::faults::SessionFault;
-use rounds::faults::SessionFaultFromAlloc;
 use rounds::gates::HIGHEST_PRICE;
-use rounds::sides::Side;
-use rounds::sides::Struck;
+use rounds::sides::{Side, Struck};
 use std::alloc::Global;
 
 /// The most lines of a table.
@@ -32,8 +23,8 @@ const MOST_LOTS: u32 = 40_000;
 
 /// That a line table can have such a limit.
 pub fn check_limit(limit: usize) -> Result<(), SessionFault>
-    ensures answer { λ r. ⌜ r ≡ limitFits limit ⌝ }
-    ensures within { λ r. ⌜ made r (λ _. limit ≤ 4096) ⌝ }
+    ensures answer { result ≡ limit_fits limit }
+    ensures within { OnOk result (limit ≤ 4096) }
 {
     if limit < 1 || limit > MOST_LINES {
         Err(SessionFault::LineLimit)
@@ -45,7 +36,7 @@ pub fn check_limit(limit: usize) -> Result<(), SessionFault>
 impl Line {
     /// The line with lots taken off, as many as it has.
     fn less(self, lots: Lots) -> Line
-        ensures { λ r. ⌜ r ≡ reduced self (lots .0) ⌝ }
+        ensures { result ≡ reduced self lots.0 }
     {
         Line {
             lots: Lots(self.lots.0.saturating_sub(lots.0)),
@@ -61,10 +52,10 @@ impl LineTable {
         limit: usize,
         participants: &Participants,
     ) -> Result<LineTable, SessionFault>
-        ensures lines { λ r. ⌜ made r (λ t. linesOf t ≡ []) ⌝ }
-        ensures limit { λ r. ⌜ made r (λ t. limitOf t ≡ limit) ⌝ }
-        ensures rows { λ r. ⌜ made r (λ t. widthOf t ≡ length (rowsOf (now (participants .entry)))) ⌝ }
-        ensures fault { λ r. ⌜ Refuses (limitFits limit) r ⌝ }
+        ensures lines { IfOk result (λ t. lines_of t ≡ []) }
+        ensures limit { IfOk result (λ t. limit_of t ≡ limit) }
+        ensures rows { IfOk result (λ t. width_of t ≡ length (rows_of participants.now)) }
+        ensures fault { Refuses (limit_fits limit) result }
     {
         check_limit(limit)?;
         Ok(LineTable {
@@ -78,25 +69,25 @@ impl LineTable {
 
     /// Whether there is no room for another line.
     pub fn is_used_up(&self) -> bool
-        ensures { λ r. ⌜ r ≡ usedUp (now (self .entry)) ⌝ }
+        ensures { result ≡ used_up self.now }
     {
         self.lines.len() >= self.limit
     }
 
     /// Whether a line keeps to its bounds.
     fn bears(&self, line: &Line) -> bool
-        ensures { λ r. ⌜ r ≡ lawfulLine (widthOf (now (self .entry))) (now (line .entry)) ⌝ }
+        ensures { result ≡ lawful_line (width_of self.now) line.now }
     {
         line.lots.0 <= MOST_LOTS && line.price.0 <= HIGHEST_PRICE && (line.row as usize) < self.rows
     }
 
     /// Adds a line, for which there is room, and counts its lots.
     fn add(&mut self, line: Line)
-        requires room { ⌜ vec-len (now self .lines) < now self .limit ⌝ }
-        requires sound { ⌜ lawfulLine (now self .rows) line ≡ true ⌝ }
-        ensures lines { λ _. ⌜ linesOf (now (self .exit)) ≡ linesOf (now (self .entry)) ++ line ∷ [] ⌝ }
-        ensures limit { λ _. ⌜ limitOf (now (self .exit)) ≡ limitOf (now (self .entry)) ⌝ }
-        ensures rows { λ _. ⌜ widthOf (now (self .exit)) ≡ widthOf (now (self .entry)) ⌝ }
+        requires room { vec_len self.old.lines < self.old.limit }
+        requires sound { lawful_line self.old.rows line ≡ true }
+        ensures lines { lines_of self.new ≡ lines_of self.old ++ line ∷ [] }
+        ensures limit { limit_of self.new ≡ limit_of self.old }
+        ensures rows { width_of self.new ≡ width_of self.old }
     {
         self.buys = Lots(self.buys.0 + line.lots_on(Side::Buy).0);
         self.sells = Lots(self.sells.0 + line.lots_on(Side::Sell).0);
@@ -105,10 +96,10 @@ impl LineTable {
 
     /// Enters a line and gives its number; nothing if the table cannot hold it.
     pub fn enter(&mut self, line: Line) -> Option<u32>
-        ensures number { λ r. ⌜ r ≡ cond (holds (now (self .entry)) line) (Some (length (linesOf (now (self .entry))))) None ⌝ }
-        ensures lines { λ _. ⌜ linesOf (now (self .exit)) ≡ cond (holds (now (self .entry)) line) (linesOf (now (self .entry)) ++ line ∷ []) (linesOf (now (self .entry))) ⌝ }
-        ensures limit { λ _. ⌜ limitOf (now (self .exit)) ≡ limitOf (now (self .entry)) ⌝ }
-        ensures rows { λ _. ⌜ widthOf (now (self .exit)) ≡ widthOf (now (self .entry)) ⌝ }
+        ensures number { result ≡ (if holds self.old line then Some (length (lines_of self.old)) else None) }
+        ensures lines { lines_of self.new ≡ (if holds self.old line then lines_of self.old ++ line ∷ [] else lines_of self.old) }
+        ensures limit { limit_of self.new ≡ limit_of self.old }
+        ensures rows { width_of self.new ≡ width_of self.old }
     {
         if self.is_used_up() || !self.bears(&line) {
             return None;
@@ -120,8 +111,8 @@ impl LineTable {
 
     /// The line of a number, if it was made.
     pub fn line(&self, number: u32) -> Option<Line>
-        ensures value { λ r. ⌜ r ≡ lineAt (linesOf (now (self .entry))) number ⌝ }
-        ensures within { λ r. ⌜ found r (λ l. (l .lots .0 ≤ 40000) × (l .price .0 ≤ 10000000)) ⌝ }
+        ensures value { result ≡ line_at (lines_of self.now) number }
+        ensures within { IfSome result (λ l. (l.lots.0 ≤ 40000) × (l.price.0 ≤ 10000000)) }
     {
         if (number as usize) < self.lines.len() {
             Some(self.lines[number as usize])
@@ -132,10 +123,10 @@ impl LineTable {
 
     /// Takes lots off a line that was made.
     fn take_off(&mut self, line: usize, lots: Lots)
-        requires { ⌜ line < vec-len (now self .lines) ⌝ }
-        ensures lines { λ _. ⌜ linesOf (now (self .exit)) ≡ set (linesOf (now (self .entry))) line (reduced (getD (linesOf (now (self .entry))) line noLine) (lots .0)) ⌝ }
-        ensures limit { λ _. ⌜ limitOf (now (self .exit)) ≡ limitOf (now (self .entry)) ⌝ }
-        ensures rows { λ _. ⌜ widthOf (now (self .exit)) ≡ widthOf (now (self .entry)) ⌝ }
+        requires { line < vec_len self.old.lines }
+        ensures lines { lines_of self.new ≡ slice_set (lines_of self.old) line (reduced (slice_index_or (lines_of self.old) line no_line) lots.0) }
+        ensures limit { limit_of self.new ≡ limit_of self.old }
+        ensures rows { width_of self.new ≡ width_of self.old }
     {
         let old = self.lines[line];
         let new = old.less(lots);
@@ -146,9 +137,9 @@ impl LineTable {
 
     /// Takes lots off a line, as many as it has; one that was not made has none.
     pub fn reduce(&mut self, line: u32, lots: Lots)
-        ensures lines { λ _. ⌜ linesOf (now (self .exit)) ≡ set (linesOf (now (self .entry))) line (reduced (getD (linesOf (now (self .entry))) line noLine) (lots .0)) ⌝ }
-        ensures limit { λ _. ⌜ limitOf (now (self .exit)) ≡ limitOf (now (self .entry)) ⌝ }
-        ensures rows { λ _. ⌜ widthOf (now (self .exit)) ≡ widthOf (now (self .entry)) ⌝ }
+        ensures lines { lines_of self.new ≡ slice_set (lines_of self.old) line (reduced (slice_index_or (lines_of self.old) line no_line) lots.0) }
+        ensures limit { limit_of self.new ≡ limit_of self.old }
+        ensures rows { width_of self.new ≡ width_of self.old }
     {
         if (line as usize) < self.lines.len() {
             self.take_off(line as usize, lots);
@@ -157,15 +148,15 @@ impl LineTable {
 
     /// How many lots one side stands above the other.
     pub fn imbalance(&self) -> Lots
-        ensures value { λ r. ⌜ r .0 ≡ imbalance (linesOf (now (self .entry))) ⌝ }
-        ensures bound { λ r. ⌜ r .0 ≤ 163840000 ⌝ }
+        ensures value { result.0 ≡ imbalance (lines_of self.now) }
+        ensures bound { result.0 ≤ 163840000 }
     {
         self.buys.apart(self.sells)
     }
 
     /// The side that stands above the other.
     pub fn excess(&self) -> Side
-        ensures { λ r. ⌜ r ≡ excess (linesOf (now (self .entry))) ⌝ }
+        ensures { result ≡ excess (lines_of self.now) }
     {
         if self.buys.0 > self.sells.0 {
             Side::Buy

@@ -1,32 +1,29 @@
 //! The fills of a fix: every line is filled whole, and the Fixing Members share the excess.
 
-ghost use mathlib.Core.Bool.{true, cond};
-ghost use mathlib.Core.Path.{_≡_};
-ghost use Prim.Native.Nat.{ℕ, _+_, _≤_, _<_};
-ghost use lib.ListN.{length, getD, take};
-ghost use Rattle·rounds.specs.Sides.{sameSide};
-ghost use Rattle·rounds.specs.declared.sides.Side.{Side};
-ghost use Rattle·lines·specs.Entries.{linesOf, widthOf};
-ghost use Rattle·lines·specs.Fills.{noFill, filledOn, filled, shareOf, sharesOf, Shared, fillsOf, Level};
-ghost use Rattle·lines·specs.Lines.{lawful, lotsOn, ofRow, imbalance};
-ghost use Rattle·participants.specs.Rosters.{rowsOf};
+ghost use Rattle.std.specs.Prelude.{◌≡◌, ℕ, ◌+◌, ◌<◌, ◌≤◌, true, length, take, if◌then◌else◌, slice_index_or};
+ghost use Rattle.rounds.specs.Sides.{same_side};
+ghost use Rattle.rounds.specs.declared.sides.Side.{Side};
+ghost use Rattle.lines.specs.Entries.{lines_of, width_of};
+ghost use Rattle.lines.specs.Fills.{no_fill, filled_on, filled, share_of, shares_of, Shared, fills_of, Level};
+ghost use Rattle.lines.specs.Lines.{lawful, lots_on, of_row, imbalance};
+ghost use Rattle.participants.specs.Rosters.{rows_of};
+
 use crate::fills::Fill;
 use crate::line::Line;
 use crate::table::LineTable;
 use measures::Lots;
 use participants::rows::Participant;
-use participants::table::MOST_ROWS;
-use participants::table::Participants;
+use participants::table::{MOST_ROWS, Participants};
 use rounds::sides::Side;
 use sharing::policy::SharingPolicy;
 
 impl Fill {
     /// The fill with more lots on a side.
     fn with(self, side: Side, lots: Lots) -> Fill
-        requires bought { ⌜ self .bought .0 ≤ 163840000 ⌝ }
-        requires sold { ⌜ self .sold .0 ≤ 163840000 ⌝ }
-        requires lots { ⌜ lots .0 ≤ 163840000 ⌝ }
-        ensures { λ r. ⌜ r ≡ filled self side (lots .0) ⌝ }
+        requires bought { self.bought.0 ≤ 163840000 }
+        requires sold { self.sold.0 ≤ 163840000 }
+        requires lots { lots.0 ≤ 163840000 }
+        ensures { result ≡ filled self side lots.0 }
     {
         match side {
             Side::Buy => Fill {
@@ -43,9 +40,9 @@ impl Fill {
 
 /// Gives each line's standing lots to its row, in one pass over the lines.
 fn fill_lines(lines: &[Line]) -> [Fill; MOST_ROWS]
-    requires few { ⌜ length (now lines) ≤ 4096 ⌝ }
-    requires sound { ⌜ lawful 256 (now lines) ≡ true ⌝ }
-    ensures { λ r. ⌜ ((side : Side) (k : ℕ) → k < 256 → filledOn side (getD r k noFill) ≡ ofRow (lotsOn side) (now (lines .entry)) k) ⌝ }
+    requires few { length lines.now ≤ 4096 }
+    requires sound { lawful 256 lines.now ≡ true }
+    ensures { (side : Side) (k : ℕ) → k < 256 → filled_on side (slice_index_or result k no_fill) ≡ of_row (lots_on side) lines.now k }
 {
     let mut fills = [Fill {
         bought: Lots(0),
@@ -67,11 +64,11 @@ fn share_out<P: SharingPolicy>(
     taker: Side,
     fills: &mut [Fill],
 )
-    requires few { ⌜ length (now rows) ≤ 256 ⌝ }
-    requires room { ⌜ length (now fills) ≡ 256 ⌝ }
-    requires excess { ⌜ excess .0 ≤ 163840000 ⌝ }
-    requires stood { ⌜ ((side : Side) (k : ℕ) → k < 256 → filledOn side (getD (now fills) k noFill) ≤ 163840000) ⌝ }
-    ensures { λ _. ⌜ ((side : Side) (k : ℕ) → k < 256 → filledOn side (getD (now (fills .exit)) k noFill) ≡ filledOn side (getD (now (fills .entry)) k noFill) + cond (sameSide taker side) (shareOf (P·SharingPolicy .share (now (policy .entry)) members (excess .0)) (now (rows .entry)) k) 0) ⌝ }
+    requires few { length rows.now ≤ 256 }
+    requires room { length fills.old ≡ 256 }
+    requires excess { excess.0 ≤ 163840000 }
+    requires stood { (side : Side) (k : ℕ) → k < 256 → filled_on side (slice_index_or fills.old k no_fill) ≤ 163840000 }
+    ensures { (side : Side) (k : ℕ) → k < 256 → filled_on side (slice_index_or fills.new k no_fill) ≡ filled_on side (slice_index_or fills.old k no_fill) + (if same_side taker side then share_of (P.SharingPolicy.share policy.now members excess.0) rows.now k else 0) }
 {
     let mut place: u32 = 0;
     for row in 0..rows.len() {
@@ -91,9 +88,9 @@ impl LineTable {
         participants: &Participants,
         policy: &P,
     ) -> [Fill; MOST_ROWS]
-        ensures value { λ r. ⌜ r ≡ fillsOf (sharesOf (P·SharingPolicy .share) (now (policy .entry)) (rowsOf (now (participants .entry))) (linesOf (now (self .entry)))) (rowsOf (now (participants .entry))) (linesOf (now (self .entry))) ⌝ }
-        ensures shared { λ _. ⌜ Shared (sharesOf (P·SharingPolicy .share) (now (policy .entry)) (rowsOf (now (participants .entry))) (linesOf (now (self .entry)))) (rowsOf (now (participants .entry))) (imbalance (linesOf (now (self .entry)))) ⌝ }
-        ensures level { λ r. ⌜ (widthOf (now (self .entry)) ≡ length (rowsOf (now (participants .entry))) → Level (take (length (rowsOf (now (participants .entry)))) r)) ⌝ }
+        ensures value { result ≡ fills_of (shares_of P.SharingPolicy.share policy.now (rows_of participants.now) (lines_of self.now)) (rows_of participants.now) (lines_of self.now) }
+        ensures shared { Shared (shares_of P.SharingPolicy.share policy.now (rows_of participants.now) (lines_of self.now)) (rows_of participants.now) (imbalance (lines_of self.now)) }
+        ensures level { width_of self.now ≡ length (rows_of participants.now) → Level (take (length (rows_of participants.now)) result) }
     {
         let mut fills = fill_lines(self.lines.as_slice());
         share_out(

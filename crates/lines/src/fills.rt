@@ -1,8 +1,6 @@
 //! What a fix gives one row.
 
 use measures::Lots;
-use measures::LotsDebug;
-use measures::LotsPartialEq;
 
 /// The lots that a row has bought and sold: its standing lots, and as a Fixing Member its share of the excess.
 #[derive(Clone, Copy, PartialEq, Eq, Debug)]

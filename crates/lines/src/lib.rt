@@ -1,5 +1,7 @@
 //! The lines of a session: what is tendered, what stands, what striking releases, and what a fix fills.
 
+#![tactic(auto)]
+
 pub mod entries;
 mod filling;
 pub mod fills;

@@ -1,16 +1,10 @@
 //! A line: what one accepted tender left standing.
 
-ghost use mathlib.Core.Path.{_≡_};
-ghost use Rattle·lines·specs.Lines.{lotsOn};
-use measures::Lots;
-use measures::LotsDebug;
-use measures::LotsPartialEq;
-use measures::Ticks;
-use measures::TicksDebug;
-use measures::TicksPartialEq;
+ghost use Rattle.std.specs.Prelude.{◌≡◌};
+ghost use Rattle.lines.specs.Lines.{lots_on};
+
+use measures::{Lots, Ticks};
 use rounds::sides::Side;
-use rounds::sides::SideDebug;
-use rounds::sides::SidePartialEq;
 
 /// The lots of one tender that still stand, with the price and the round that they were tendered in.
 #[derive(Clone, Copy, PartialEq, Eq, Debug)]
@@ -25,7 +19,7 @@ pub struct Line {
 impl Line {
     /// The lots that stand on a side.
     pub fn lots_on(&self, side: Side) -> Lots
-        ensures { λ r. ⌜ r .0 ≡ lotsOn side (now (self .entry)) ⌝ }
+        ensures { result.0 ≡ lots_on side self.now }
     {
         if self.side == side {
             self.lots

@@ -1,18 +1,16 @@
 //! The margin of lots at a price.
 
-ghost use mathlib.Core.Path.{_≡_};
-ghost use Prim.Native.Nat.{_-_, _^_, _≤_, min};
-ghost use Rattle·measures.specs.Amounts.{amount};
+ghost use Rattle.std.specs.Prelude.{◌≡◌, ◌-◌, ◌^◌, ◌≤◌, min};
+ghost use Rattle.measures.specs.Amounts.{amount};
+
 use contracts::quoted::QuotedContract;
-use measures::Fen;
-use measures::Lots;
-use measures::Ticks;
+use measures::{Fen, Lots, Ticks};
 
 /// What lots at a price freeze: lots × price × the contract's margin figure. That of a tender at a price always fits; what
 /// 64 bits cannot hold counts as the most that they hold.
 pub fn margin_of<C: QuotedContract>(lots: Lots, price: Ticks) -> Fen
-    ensures value { λ r. ⌜ r .0 ≡ min (amount (C·QuotedContract .margin) (lots .0) (price .0)) (2 ^ 64 - 1) ⌝ }
-    ensures fits { λ r. ⌜ (lots .0 ≤ 40000 → price .0 ≤ 10000000 → r .0 ≡ amount (C·QuotedContract .margin) (lots .0) (price .0)) ⌝ }
+    ensures value { result.0 ≡ min (amount C.QuotedContract.margin lots.0 price.0) (2 ^ 64 - 1) }
+    ensures fits { lots.0 ≤ 40000 → price.0 ≤ 10000000 → result.0 ≡ amount C.QuotedContract.margin lots.0 price.0 }
 {
     match lots.amount(price, C::margin_figure()) {
         Some(fen) => fen,

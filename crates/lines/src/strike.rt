@@ -1,37 +1,30 @@
 //! Striking lines: their margin is released at the price they were tendered at.
 
-ghost use mathlib.Core.Bool.{true, false};
-ghost use mathlib.Core.List.{map};
-ghost use mathlib.Core.Path.{_≡_};
-ghost use Prim.Native.Nat.{ℕ, _≤_, _<_};
-ghost use lib.ListN.{length, getD};
-ghost use Rattle·std.specs.Of.Vec.{vec-items, vec-cap};
-ghost use Rattle·std.specs.Vec.{made, refused};
-ghost use Rattle·books.specs.Accounts.{releasedAt};
-ghost use Rattle·rounds.specs.Sides.{hits};
-ghost use Rattle·rounds.specs.declared.sides.Side.{Side};
-ghost use Rattle·sharing.specs.Shares.{below};
-ghost use Rattle·lines·specs.Entries.{linesOf, limitOf, widthOf};
-ghost use Rattle·lines·specs.Lines.{lawful, lineDue, dueTo, struck, standing};
-ghost use Rattle·lines·specs.Striking.{dueIn, covers, coversAll, releasedAll, strikeCheck, struckAccounts, struckMargin};
+ghost use Rattle.std.specs.Prelude.{◌≡◌, ℕ, ◌<◌, ◌≤◌, true, false, map, length, vec_capacity, OnErr, OnOk};
+ghost use Rattle.books.specs.Accounts.{released_at};
+ghost use Rattle.rounds.specs.Sides.{hits};
+ghost use Rattle.rounds.specs.declared.sides.Side.{Side};
+ghost use Rattle.sharing.specs.Shares.{below};
+ghost use Rattle.lines.specs.Entries.{lines_of, limit_of, width_of};
+ghost use Rattle.lines.specs.Lines.{lawful, line_due, due_to, struck, standing};
+ghost use Rattle.lines.specs.Striking.{due_in, covers, covers_all, released_all, strike_check, struck_accounts, struck_margin};
+
 use crate::line::Line;
 use crate::margins::margin_of;
 use crate::table::LineTable;
 use books::book::MarginBook;
 use books::faults::BookFault;
 use contracts::quoted::QuotedContract;
-use measures::Fen;
-use measures::Lots;
+use measures::{Fen, Lots};
 use participants::table::MOST_ROWS;
-use rounds::sides::Side;
-use rounds::sides::Struck;
+use rounds::sides::{Side, Struck};
 
 impl Line {
     /// What striking releases of this line.
     fn due<C: QuotedContract>(&self, which: Struck) -> Fen
-        requires lots { ⌜ now self .lots .0 ≤ 40000 ⌝ }
-        requires price { ⌜ now self .price .0 ≤ 10000000 ⌝ }
-        ensures { λ r. ⌜ r .0 ≡ lineDue (C·QuotedContract .margin) which (now (self .entry)) ⌝ }
+        requires lots { self.now.lots.0 ≤ 40000 }
+        requires price { self.now.price.0 ≤ 10000000 }
+        ensures { result.0 ≡ line_due C.QuotedContract.margin which self.now }
     {
         let lots = if which.hits(self.side) {
             self.lots
@@ -43,7 +36,7 @@ impl Line {
 
     /// Sets the lots to none if the line is struck.
     fn strike(&mut self, which: Struck)
-        ensures { λ _. ⌜ now (self .exit) ≡ struck which (now (self .entry)) ⌝ }
+        ensures { self.new ≡ struck which self.old }
     {
         self.lots = which.leaves(self.side, self.lots);
     }
@@ -51,9 +44,9 @@ impl Line {
 
 /// Sums up, in one pass over the lines, what striking releases to each row: room for the most rows there can be.
 fn sum_dues<C: QuotedContract>(lines: &[Line], which: Struck) -> [Fen; MOST_ROWS]
-    requires few { ⌜ length (now lines) ≤ 4096 ⌝ }
-    requires sound { ⌜ lawful 256 (now lines) ≡ true ⌝ }
-    ensures { λ r. ⌜ ((k : ℕ) → k < 256 → dueIn r k ≡ dueTo (C·QuotedContract .margin) which (now (lines .entry)) k) ⌝ }
+    requires few { length lines.now ≤ 4096 }
+    requires sound { lawful 256 lines.now ≡ true }
+    ensures { (k : ℕ) → k < 256 → due_in result k ≡ due_to C.QuotedContract.margin which lines.now k }
 {
     let mut dues = [Fen(0); MOST_ROWS];
     for line in lines {
@@ -66,7 +59,7 @@ fn sum_dues<C: QuotedContract>(lines: &[Line], which: Struck) -> [Fen; MOST_ROWS
 
 /// That an account has enough frozen for what it is due; nothing due is not asked for.
 fn check_due<B: MarginBook>(book: &B, account: u32, due: Fen) -> Result<(), BookFault>
-    ensures { λ r. ⌜ r ≡ covers (B·MarginBook .means (now (book .entry)) account) (due .0) ⌝ }
+    ensures { result ≡ covers (B.MarginBook.means book.now account) due.0 }
 {
     if due.0 == 0 {
         return Ok(());
@@ -80,9 +73,9 @@ fn check_due<B: MarginBook>(book: &B, account: u32, due: Fen) -> Result<(), Book
 
 /// That the account of each of the rows has enough frozen for what it is due, rows in order.
 fn check_dues<B: MarginBook>(book: &B, dues: &[Fen], rows: usize) -> Result<(), BookFault>
-    requires few { ⌜ rows ≤ 256 ⌝ }
-    requires within { ⌜ rows ≤ length (now dues) ⌝ }
-    ensures { λ r. ⌜ r ≡ coversAll (B·MarginBook .means (now (book .entry))) (dueIn (now (dues .entry))) rows ⌝ }
+    requires few { rows ≤ 256 }
+    requires within { rows ≤ length dues.now }
+    ensures { result ≡ covers_all (B.MarginBook.means book.now) (due_in dues.now) rows }
 {
     for row in 0..rows {
         check_due(book, row as u32, dues[row])?;
@@ -92,7 +85,7 @@ fn check_dues<B: MarginBook>(book: &B, dues: &[Fen], rows: usize) -> Result<(), 
 
 /// Releases to an account what it is due; nothing due is not asked for.
 fn give_back<B: MarginBook>(book: &mut B, account: u32, due: Fen)
-    ensures { λ _. ⌜ B·MarginBook .means (now (book .exit)) ≡ releasedAt (B·MarginBook .means (now (book .entry))) account (due .0) ⌝ }
+    ensures { B.MarginBook.means book.new ≡ released_at (B.MarginBook.means book.old) account due.0 }
 {
     if due.0 == 0 {
         return;
@@ -103,9 +96,9 @@ fn give_back<B: MarginBook>(book: &mut B, account: u32, due: Fen)
 
 /// Releases to the account of each of the rows what it is due.
 fn release_dues<B: MarginBook>(book: &mut B, dues: &[Fen], rows: usize)
-    requires few { ⌜ rows ≤ 256 ⌝ }
-    requires within { ⌜ rows ≤ length (now dues) ⌝ }
-    ensures { λ _. ⌜ B·MarginBook .means (now (book .exit)) ≡ releasedAll (B·MarginBook .means (now (book .entry))) (dueIn (now (dues .entry))) rows ⌝ }
+    requires few { rows ≤ 256 }
+    requires within { rows ≤ length dues.now }
+    ensures { B.MarginBook.means book.new ≡ released_all (B.MarginBook.means book.old) (due_in dues.now) rows }
 {
     for row in 0..rows {
         give_back(book, row as u32, dues[row]);
@@ -114,8 +107,8 @@ fn release_dues<B: MarginBook>(book: &mut B, dues: &[Fen], rows: usize)
 
 /// Strikes each line of a list.
 fn strike_lines(lines: &mut Vec<Line>, which: Struck)
-    ensures items { λ _. ⌜ vec-items (now (lines .exit)) ≡ map (struck which) (vec-items (now (lines .entry))) ⌝ }
-    ensures capacity { λ _. ⌜ vec-cap (now (lines .exit)) ≡ vec-cap (now (lines .entry)) ⌝ }
+    ensures items { lines.new.items ≡ map (struck which) lines.old.items }
+    ensures capacity { vec_capacity lines.new ≡ vec_capacity lines.old }
 {
     for line in lines.iter_mut() {
         line.strike(which);
@@ -129,9 +122,9 @@ impl LineTable {
         book: &mut B,
         which: Struck,
     ) -> Result<(), BookFault>
-        ensures answer { λ r. ⌜ r ≡ strikeCheck (C·QuotedContract .margin) (widthOf (now (self .entry))) (linesOf (now (self .entry))) (B·MarginBook .means (now (book .entry))) which ⌝ }
-        ensures after { λ r. ⌜ made r (λ _. B·MarginBook .means (now (book .exit)) ≡ struckAccounts (C·QuotedContract .margin) (widthOf (now (self .entry))) (linesOf (now (self .entry))) (B·MarginBook .means (now (book .entry))) which) ⌝ }
-        ensures kept { λ r. ⌜ refused r (λ _. B·MarginBook .means (now (book .exit)) ≡ B·MarginBook .means (now (book .entry))) ⌝ }
+        ensures answer { result ≡ strike_check C.QuotedContract.margin (width_of self.now) (lines_of self.now) (B.MarginBook.means book.old) which }
+        ensures after { OnOk result (B.MarginBook.means book.new ≡ struck_accounts C.QuotedContract.margin (width_of self.now) (lines_of self.now) (B.MarginBook.means book.old) which) }
+        ensures kept { OnErr result (B.MarginBook.means book.new ≡ B.MarginBook.means book.old) }
     {
         let dues = sum_dues::<C>(self.lines.as_slice(), which);
         check_dues(book, &dues, self.rows)?;
@@ -141,9 +134,9 @@ impl LineTable {
 
     /// Sets the lots of the struck lines to none, and with them those of their side.
     fn clear(&mut self, which: Struck)
-        ensures lines { λ _. ⌜ linesOf (now (self .exit)) ≡ map (struck which) (linesOf (now (self .entry))) ⌝ }
-        ensures limit { λ _. ⌜ limitOf (now (self .exit)) ≡ limitOf (now (self .entry)) ⌝ }
-        ensures rows { λ _. ⌜ widthOf (now (self .exit)) ≡ widthOf (now (self .entry)) ⌝ }
+        ensures lines { lines_of self.new ≡ map (struck which) (lines_of self.old) }
+        ensures limit { limit_of self.new ≡ limit_of self.old }
+        ensures rows { width_of self.new ≡ width_of self.old }
     {
         strike_lines(&mut self.lines, which);
         self.buys = which.leaves(Side::Buy, self.buys);
@@ -158,15 +151,15 @@ impl LineTable {
         book: &mut B,
         which: Struck,
     ) -> Result<(), BookFault>
-        ensures answer { λ r. ⌜ r ≡ strikeCheck (C·QuotedContract .margin) (widthOf (now (self .entry))) (linesOf (now (self .entry))) (B·MarginBook .means (now (book .entry))) which ⌝ }
-        ensures lines { λ r. ⌜ made r (λ _. linesOf (now (self .exit)) ≡ map (struck which) (linesOf (now (self .entry)))) ⌝ }
-        ensures accounts { λ r. ⌜ made r (λ _. B·MarginBook .means (now (book .exit)) ≡ struckAccounts (C·QuotedContract .margin) (widthOf (now (self .entry))) (linesOf (now (self .entry))) (B·MarginBook .means (now (book .entry))) which) ⌝ }
-        ensures kept { λ r. ⌜ refused r (λ _. (linesOf (now (self .exit)) ≡ linesOf (now (self .entry))) × (B·MarginBook .means (now (book .exit)) ≡ B·MarginBook .means (now (book .entry)))) ⌝ }
-        ensures limit { λ _. ⌜ limitOf (now (self .exit)) ≡ limitOf (now (self .entry)) ⌝ }
-        ensures rows { λ _. ⌜ widthOf (now (self .exit)) ≡ widthOf (now (self .entry)) ⌝ }
-        ensures none { λ r. ⌜ made r (λ _. (side : Side) → hits which side ≡ true → standing side (linesOf (now (self .exit))) ≡ 0) ⌝ }
-        ensures rest { λ r. ⌜ made r (λ _. (side : Side) → hits which side ≡ false → standing side (linesOf (now (self .exit))) ≡ standing side (linesOf (now (self .entry)))) ⌝ }
-        ensures whole { λ _. ⌜ below (widthOf (now (self .entry))) (dueTo (C·QuotedContract .margin) which (linesOf (now (self .entry)))) ≡ struckMargin (C·QuotedContract .margin) (linesOf (now (self .entry))) which ⌝ }
+        ensures answer { result ≡ strike_check C.QuotedContract.margin (width_of self.old) (lines_of self.old) (B.MarginBook.means book.old) which }
+        ensures lines { OnOk result (lines_of self.new ≡ map (struck which) (lines_of self.old)) }
+        ensures accounts { OnOk result (B.MarginBook.means book.new ≡ struck_accounts C.QuotedContract.margin (width_of self.old) (lines_of self.old) (B.MarginBook.means book.old) which) }
+        ensures kept { OnErr result ((lines_of self.new ≡ lines_of self.old) × (B.MarginBook.means book.new ≡ B.MarginBook.means book.old)) }
+        ensures limit { limit_of self.new ≡ limit_of self.old }
+        ensures rows { width_of self.new ≡ width_of self.old }
+        ensures none { OnOk result ((side : Side) → hits which side ≡ true → standing side (lines_of self.new) ≡ 0) }
+        ensures rest { OnOk result ((side : Side) → hits which side ≡ false → standing side (lines_of self.new) ≡ standing side (lines_of self.old)) }
+        ensures whole { below (width_of self.old) (due_to C.QuotedContract.margin which (lines_of self.old)) ≡ struck_margin C.QuotedContract.margin (lines_of self.old) which }
     {
         self.release::<C, B>(book, which)?;
         self.clear(which);

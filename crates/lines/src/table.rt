@@ -1,11 +1,9 @@
 //! The line table.
 
-ghost use mathlib.Core.Path.{_≡_};
-ghost use mathlib.Core.Bool.{true};
-ghost use Prim.Native.Nat.{_≤_};
-ghost use Rattle·std.specs.Of.Vec.{vec-items, vec-len, vec-cap};
-ghost use Rattle·rounds.specs.declared.sides.Side.the-variants.{Buy, Sell};
-ghost use Rattle·lines·specs.Lines.{standing, lawful};
+ghost use Rattle.std.specs.Prelude.{◌≡◌, ◌≤◌, true, vec_len, vec_capacity};
+ghost use Rattle.rounds.specs.declared.sides.Side.TheVariants.{Buy, Sell};
+ghost use Rattle.lines.specs.Lines.{standing, lawful};
+
 use crate::line::Line;
 use measures::Lots;
 
@@ -19,11 +17,11 @@ pub struct LineTable {
     pub(crate) rows: usize,
     pub(crate) buys: Lots,
     pub(crate) sells: Lots,
-    ghost few_lines: { vec-len lines ≤ limit },
+    ghost few_lines: { vec_len lines ≤ limit },
     ghost small: { limit ≤ 4096 },
-    ghost reserved: { limit ≤ vec-cap lines },
+    ghost reserved: { limit ≤ vec_capacity lines },
     ghost narrow: { rows ≤ 256 },
-    ghost sound: { lawful rows (vec-items lines) ≡ true },
-    ghost bought: { buys .0 ≡ standing Buy (vec-items lines) },
-    ghost sold: { sells .0 ≡ standing Sell (vec-items lines) },
+    ghost sound: { lawful rows lines.items ≡ true },
+    ghost bought: { buys.0 ≡ standing Buy lines.items },
+    ghost sold: { sells.0 ≡ standing Sell lines.items },
 }

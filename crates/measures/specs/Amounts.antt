@@ -1,9 +1,5 @@
-use Prim.Native.Nat.{ℕ, _+_, _-_, _*_, _^_}
-use mathlib.Core.Bool.{cond}
-use lib.Dec.{ltb}
-use Rattle·std.specs.declared.option.Option.{Option}
-use Rattle·std.specs.declared.option.Option.the-variants.{Some, None}
-use Rattle·measures·specs.declared.Fen.{Fen}
+use Rattle.std.specs.Prelude.{ℕ, ◌+◌, ◌-◌, ◌*◌, ◌^◌, cond, Some, None, Option, nat_lt}
+use Rattle.measures.specs.declared.Fen.{Fen}
 
 -- how far two numbers are apart
 abbrev pub apart : ℕ → ℕ → ℕ
@@ -15,4 +11,4 @@ amount figure lots price = figure * (lots * price)
 
 -- a sum of money, if 64 bits hold it
 abbrev pub fitting : ℕ → Option Fen
-fitting n = cond (ltb n (2 ^ 64)) (Some (record { 0 = n })) None
+fitting n = cond (nat_lt n (2 ^ 64)) (Some (record { 0 = n })) None

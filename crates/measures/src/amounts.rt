@@ -1,30 +1,28 @@
 //! What the measures make of one another.
 
-ghost use mathlib.Core.Path.{_≡_};
-ghost use Prim.Native.Nat.{_*_, min};
-ghost use Rattle·measures·specs.Amounts.{apart, amount, fitting};
-use crate::Fen;
-use crate::Lots;
-use crate::Ticks;
+ghost use Rattle.std.specs.Prelude.{◌≡◌, ◌*◌, min};
+ghost use Rattle.measures.specs.Amounts.{apart, amount, fitting};
+
+use crate::{Fen, Lots, Ticks};
 
 impl Lots {
     /// The smaller of two.
     pub fn least(self, other: Lots) -> Lots
-        ensures { λ r. ⌜ r .0 ≡ min (self .0) (other .0) ⌝ }
+        ensures { result.0 ≡ min self.0 other.0 }
     {
         Lots(self.0.min(other.0))
     }
 
     /// How far two are apart.
     pub fn apart(self, other: Lots) -> Lots
-        ensures { λ r. ⌜ r .0 ≡ apart (self .0) (other .0) ⌝ }
+        ensures { result.0 ≡ apart self.0 other.0 }
     {
         Lots(self.0.abs_diff(other.0))
     }
 
     /// The money of these lots at a price, where each tick of each lot stands for `figure` fen; nothing if 64 bits cannot hold it.
     pub fn amount(self, price: Ticks, figure: Fen) -> Option<Fen>
-        ensures { λ r. ⌜ r ≡ fitting (amount (figure .0) (self .0) (price .0)) ⌝ }
+        ensures { result ≡ fitting (amount figure.0 self.0 price.0) }
     {
         match figure.0.checked_mul(self.0 as u64 * price.0 as u64) {
             Some(fen) => Some(Fen(fen)),
@@ -36,7 +34,7 @@ impl Lots {
 impl Fen {
     /// A number of millions of fen.
     pub fn millions(count: u32) -> Fen
-        ensures { λ r. ⌜ r .0 ≡ 1000000 * count ⌝ }
+        ensures { result.0 ≡ 1000000 * count }
     {
         Fen(1_000_000 * count as u64)
     }

@@ -1,5 +1,7 @@
 //! The four measures of the engine, which never mix: kilograms, lots, ticks and fen.
 
+#![tactic(auto)]
+
 mod amounts;
 
 /// Kilograms of metal.

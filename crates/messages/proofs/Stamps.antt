@@ -1,29 +1,21 @@
 -- Figures written one by one as the words of a message.
-use Prim.Native.Nat.{ℕ, suc, _+_, _-_, _^_, _<_, _≤_}
-use native.Mathlib.Omega.{arith}
-use mathlib.Core.Path.{_≡_, refl, sym, ap, _∙_}
-use mathlib.Core.Bool.{Bool, true, false, cond}
-use mathlib.Core.List.{List, [], _∷_, _++_}
-use lib.ListN.{length, getD, take, drop, set}
-use Rattle·std.specs.declared.option.Option.{Option}
-use Rattle·std.specs.declared.option.Option.the-variants.{Some, None}
-use Rattle·std.specs.shelf.Lists.{All}
-use Rattle·std.proofs.shelf.Lists.{at-drop-more, at-drop-all, drop-more, take-more, take-rest, take-append-drop, length-drop, length-take-le, set-at, append-nil, append-assoc}
-use Rattle·std.proofs.shelf.Tests.{lt-ltb, le-ltb, cond-true, cond-false, false≢true}
-use Rattle·std.proofs.shelf.Ways.{tells}
-use Rattle·std.specs.declared.result.Result.the-variants.{Ok, Err}
-use Rattle·messages·specs.declared.faults.MessageFault.the-variants.{Misfit, Short}
-use Rattle·messages·specs.declared.verbs.Verb.{Verb}
-use Rattle·messages·specs.declared.kinds.Kind.{Kind}
-use Rattle·messages·specs.declared.kinds.Kind.the-variants as kind
-use Rattle·messages·specs.declared.rows.OpenRow.{OpenRow}
-use Rattle·messages·specs.declared.calls.Metal.{Metal}
-use Rattle·messages·specs.declared.calls.Metal.the-variants.{Gold, Silver}
-use Rattle·messages·specs.Kinds.{wordOf}
-use Rattle·messages·specs.Verbs.{first, again}
-use Rattle·messages·specs.Reading.{coming}
-use Rattle·messages·specs.Writing.{opens, stamp, stamped, counted, writable, firstOver, writtenUnless, writingFigures}
-use Rattle·messages·specs.Rows.{flat}
+use Rattle.std.proofs.Common.{◌≡◌, ℕ, suc, ◌+◌, ◌-◌, ◌^◌, ◌<◌, ◌≤◌, Bool, true, false, cond, List, [], ◌∷◌, ◌++◌, length, get_or, take, drop, set, Some, None, Ok, Err, Option, sym, refl, ap, ◌∙◌, arith}
+use Rattle.std.specs.List.{AllByRecursion}
+use Rattle.std.proofs.lemmas.List.{at_drop_more, at_drop_all, drop_more, take_more, take_rest, take-append-drop, length-drop, length-take-le, set_at, append-nil, append_assoc}
+use Rattle.std.proofs.lemmas.Bool.{lt-ltb, le-ltb, cond-true, cond-false, false≢true}
+use Rattle.std.proofs.lemmas.Bool.Decides.{nat_tests}
+use Rattle.messages.specs.declared.faults.MessageFault.TheVariants.{Misfit, Short}
+use Rattle.messages.specs.declared.verbs.Verb.{Verb}
+use Rattle.messages.specs.declared.kinds.Kind.{Kind}
+use Rattle.messages.specs.declared.kinds.Kind.TheVariants as kind
+use Rattle.messages.specs.declared.rows.OpenRow.{OpenRow}
+use Rattle.messages.specs.declared.calls.Metal.{Metal}
+use Rattle.messages.specs.declared.calls.Metal.TheVariants.{Gold, Silver}
+use Rattle.messages.specs.Kinds.{word_of}
+use Rattle.messages.specs.Verbs.{first, again}
+use Rattle.messages.specs.Reading.{coming}
+use Rattle.messages.specs.Writing.{opens, stamp, stamped, counted, writable, first_over, written_unless, writing_figures}
+use Rattle.messages.specs.Rows.{flat}
 
 -- after i figures: what was written, and what is still to be stamped
 pub record Filled (more kinds left : List Kind) (fs : List ℕ) (i : ℕ) (was now : List ℕ) : Type 0 where
@@ -37,17 +29,17 @@ fits-here i r false e = absurd (grind arith)
 
 -- what can be written has at most 28 bits
 writable-fits : (i f : ℕ) → writable i f ≡ true → f < 2 ^ 28
-writable-fits i f e = grind (arith, tells)
+writable-fits i f e = grind (arith, nat_tests)
 
-pub fits-from-over : (fs : List ℕ) (i : ℕ) → firstOver i fs ≡ None → All (λ f. f < 2 ^ 28) fs
+pub fits-from-over : (fs : List ℕ) (i : ℕ) → first_over i fs ≡ None → AllByRecursion (λ f. f < 2 ^ 28) fs
 fits-from-over [] i e = tt
-fits-from-over (f ∷ fs) i e = let h = fits-here i (firstOver (i + 1) fs) (writable i f) e in (writable-fits i f (h .0), fits-from-over fs (i + 1) (h .1))
+fits-from-over (f ∷ fs) i e = let h = fits-here i (first_over (i + 1) fs) (writable i f) e in (writable-fits i f h.0, fits-from-over fs (i + 1) h.1)
 
 pub length-stamped : (more left : List Kind) (fs : List ℕ) → length (stamped more left fs) ≡ length fs
 length-stamped more left [] = refl
 length-stamped more left (f ∷ fs) = ap suc (length-stamped more (drop 1 (coming more left)) fs)
 
-stamp-some : (ks : List Kind) (d : Kind) (f : ℕ) → 1 ≤ length ks → stamp ks f ≡ wordOf (getD ks 0 d) f
+stamp-some : (ks : List Kind) (d : Kind) (f : ℕ) → 1 ≤ length ks → stamp ks f ≡ word_of (get_or ks 0 d) f
 stamp-some [] d f h = absurd (omega arith)
 stamp-some (k ∷ ks) d f h = refl
 
@@ -62,67 +54,67 @@ cut : (W : List ℕ) (i v : ℕ) (t : List ℕ) → drop i W ≡ v ∷ t → (i 
 cut W i v t e =
     let n : length W - i ≡ suc (length t) = sym (length-drop i W) ∙ ap length e in
     let lt : i < length W = omega arith in
-    let d = drop-more W i 0 lt in
-    let m = take-more W i 0 lt in
+    let d = drop_more W i 0 lt in
+    let m = take_more W i 0 lt in
     (omega arith, (cc), (cc))
 
 module _ {more kinds left : List Kind} {fs : List ℕ} {i : ℕ} {was now : List ℕ} (F : Filled more kinds left fs i was now) where
   next-counted : i < length fs → (1 ≤ length (coming more left)) × (counted more (drop 1 (coming more left)) (drop (i + 1) fs) ≡ true)
-  next-counted h = counted-some more left (getD fs i 0) (drop (i + 1) fs) (sym (at-drop-more (counted more left) fs i 0 h) ∙ F .count)
+  next-counted h = counted-some more left (get_or fs i 0) (drop (i + 1) fs) (sym (at_drop_more (counted more left) fs i 0 h) ∙ F.count)
 
   pub comes : (ks : List Kind) → ks ≡ coming more left → i < length fs → 1 ≤ length ks
-  comes ks e h = rw e (next-counted h .0)
+  comes ks e h = rw e (next-counted h).0
 
-  pub fill-more : (ks : List Kind) (d : Kind) (v : ℕ) → ks ≡ coming more left → v ≡ wordOf (getD ks 0 d) (getD fs i 0) → i < length fs → i < length was
+  pub fill_more : (ks : List Kind) (d : Kind) (v : ℕ) → ks ≡ coming more left → v ≡ word_of (get_or ks 0 d) (get_or fs i 0) → i < length fs → i < length was
       → Filled more kinds (take (length ks - 1) (drop 1 ks)) fs (i + 1) was (set now i v)
-  fill-more ks d v e q h r =
-      let s : stamp (coming more left) (getD fs i 0) ≡ v =
-      ap (λ x. stamp x (getD fs i 0)) (sym e) ∙ stamp-some ks d (getD fs i 0) (comes ks e h) ∙ sym q in
+  fill_more ks d v e q h r =
+      let s : stamp (coming more left) (get_or fs i 0) ≡ v =
+      ap (λ x. stamp x (get_or fs i 0)) (sym e) ∙ stamp-some ks d (get_or fs i 0) (comes ks e h) ∙ sym q in
       let t : List ℕ = stamped more (drop 1 (coming more left)) (drop (i + 1) fs) in
-      let p = cut (stamped more kinds fs) i v t (F .rest ∙ at-drop-more (stamped more left) fs i 0 h ∙ ap (λ x. x ∷ t) s) in
-      let at-i = set-at (take i (stamped more kinds fs)) (getD was i 0) (drop (i + 1) was) v i (length-take-le i (stamped more kinds fs) (p .0)) in
-      rw (take-rest ks 1, e) (record {
-        front = ap (λ x. set x i v) (F .front ∙ ap (λ x. take i (stamped more kinds fs) ++ x) (drop-more was i 0 r))
-            ∙ at-i ∙ sym (append-assoc (take i (stamped more kinds fs)) (v ∷ []) (drop (i + 1) was)) ∙ ap (λ x. x ++ drop (i + 1) was) (sym (p .1));
-        rest = p .2;
-        count = next-counted h .1;
+      let p = cut (stamped more kinds fs) i v t (F.rest ∙ at_drop_more (stamped more left) fs i 0 h ∙ ap (λ x. x ∷ t) s) in
+      let at_i = set_at (take i (stamped more kinds fs)) (get_or was i 0) (drop (i + 1) was) v i (length-take-le i (stamped more kinds fs) p.0) in
+      rw (take_rest ks 1, e) (record {
+        front = ap (λ x. set x i v) (F.front ∙ ap (λ x. take i (stamped more kinds fs) ++ x) (drop_more was i 0 r))
+            ∙ at_i ∙ sym (append_assoc (take i (stamped more kinds fs)) (v ∷ []) (drop (i + 1) was)) ∙ ap (λ x. x ++ drop (i + 1) was) (sym p.1);
+        rest = p.2;
+        count = (next-counted h).1;
       })
 
   pub fill-all : (n : ℕ) → n ≡ i → length fs ≤ i → now ≡ stamped more kinds fs ++ drop n was
   fill-all n q h =
-      let none : drop i (stamped more kinds fs) ≡ [] = F .rest ∙ at-drop-all (stamped more left) fs i h in
+      let none : drop i (stamped more kinds fs) ≡ [] = F.rest ∙ at_drop_all (stamped more left) fs i h in
       let all : take i (stamped more kinds fs) ≡ stamped more kinds fs =
       sym (append-nil _) ∙ ap (λ x. take i (stamped more kinds fs) ++ x) (sym none) ∙ take-append-drop i (stamped more kinds fs) in
-      rw q (F .front ∙ ap (λ x. x ++ drop i was) all)
+      rw q (F.front ∙ ap (λ x. x ++ drop i was) all)
 
 -- a step of the search for a figure that cannot be written
-module _ (fs : List ℕ) (i : ℕ) (X : Option ℕ) (so-far : firstOver i (drop i fs) ≡ X) where
-  over-step : (b : Bool) → i < length fs → b ≡ writable i (getD fs i 0) → cond b (firstOver (i + 1) (drop (i + 1) fs)) (Some i) ≡ X
-  over-step b h q = ap (λ t. cond t (firstOver (i + 1) (drop (i + 1) fs)) (Some i)) q ∙ sym (at-drop-more (firstOver i) fs i 0 h) ∙ so-far
+module _ (fs : List ℕ) (i : ℕ) (X : Option ℕ) (so_far : first_over i (drop i fs) ≡ X) where
+  over-step : (b : Bool) → i < length fs → b ≡ writable i (get_or fs i 0) → cond b (first_over (i + 1) (drop (i + 1) fs)) (Some i) ≡ X
+  over-step b h q = ap (λ t. cond t (first_over (i + 1) (drop (i + 1) fs)) (Some i)) q ∙ sym (at_drop_more (first_over i) fs i 0 h) ∙ so_far
 
-  pub over-here : i < length fs → false ≡ writable i (getD fs i 0) → Some i ≡ X
+  pub over-here : i < length fs → false ≡ writable i (get_or fs i 0) → Some i ≡ X
   over-here h q = over-step false h q
 
-  pub over-more : i < length fs → true ≡ writable i (getD fs i 0) → firstOver (i + 1) (drop (i + 1) fs) ≡ X
+  pub over-more : i < length fs → true ≡ writable i (get_or fs i 0) → first_over (i + 1) (drop (i + 1) fs) ≡ X
   over-more h q = over-step true h q
 
-  pub over-none : length fs ≤ i → None ≡ X
-  over-none h = sym (at-drop-all (firstOver i) fs i h) ∙ so-far
+  pub over_none : length fs ≤ i → None ≡ X
+  over_none h = sym (at_drop_all (first_over i) fs i h) ∙ so_far
 
 -- the three ways that a message is written or refused
 module _ (v : Verb) (fs out : List ℕ) where
-  pub writes-short : length out < length fs → (Err Short, out) ≡ writingFigures v fs out
-  writes-short h = sym (cond-true _ _ _ (lt-ltb (length out) (length fs) h))
+  pub writes_short : length out < length fs → (Err Short, out) ≡ writing_figures v fs out
+  writes_short h = sym (cond-true _ _ _ (lt-ltb (length out) (length fs) h))
 
-  fits-room : length fs ≤ length out → (o : Option ℕ) → o ≡ firstOver 0 fs → writtenUnless o v fs out ≡ writingFigures v fs out
-  fits-room h o e = ap (λ x. writtenUnless x v fs out) e ∙ sym (cond-false _ _ _ (le-ltb (length out) (length fs) h))
+  fits-room : length fs ≤ length out → (o : Option ℕ) → o ≡ first_over 0 fs → written_unless o v fs out ≡ writing_figures v fs out
+  fits-room h o e = ap (λ x. written_unless x v fs out) e ∙ sym (cond-false _ _ _ (le-ltb (length out) (length fs) h))
 
-  pub writes-over : (i : ℕ) → length fs ≤ length out → Some i ≡ firstOver 0 fs → (Err (Misfit i), out) ≡ writingFigures v fs out
+  pub writes-over : (i : ℕ) → length fs ≤ length out → Some i ≡ first_over 0 fs → (Err (Misfit i), out) ≡ writing_figures v fs out
   writes-over i h e = fits-room h (Some i) e
 
-  pub writes-all : (n : ℕ) (new : List ℕ) → n ≡ length fs → n ≤ length out → None ≡ firstOver 0 fs
+  pub writes-all : (n : ℕ) (new : List ℕ) → n ≡ length fs → n ≤ length out → None ≡ first_over 0 fs
       → new ≡ stamped (again v) (first v) fs ++ drop n out
-      → (Ok n, new) ≡ writingFigures v fs out
+      → (Ok n, new) ≡ writing_figures v fs out
   writes-all n new c h e q = rw (q, c) (fits-room (omega arith) None e)
 
 -- the figures of begin and open are as many as may come

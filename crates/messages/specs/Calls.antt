@@ -1,11 +1,10 @@
-use Prim.Native.Nat.{ℕ}
-use mathlib.Core.List.{List}
-use Rattle·messages·specs.declared.calls.Call.{Call}
-use Rattle·messages·specs.declared.calls.Call.the-variants.{Quote, Begin, Buy, Sell, Reduce, Close, Suspend, Reissue, Announce, Open}
-use Rattle·messages·specs.declared.calls.Metal.{Metal}
-use Rattle·messages·specs.declared.rows.OpenRow.{OpenRow}
-use Rattle·messages·specs.Prices.{pricesOf}
-use Rattle·messages·specs.Rows.{rowsOf}
+use Rattle.std.specs.Prelude.{ℕ, List}
+use Rattle.messages.specs.declared.calls.Call.{Call}
+use Rattle.messages.specs.declared.calls.Call.TheVariants.{Quote, Begin, Buy, Sell, Reduce, Close, Suspend, Reissue, Announce, Open}
+use Rattle.messages.specs.declared.calls.Metal.{Metal}
+use Rattle.messages.specs.declared.rows.OpenRow.{OpenRow}
+use Rattle.messages.specs.Prices.{prices_of}
+use Rattle.messages.specs.Rows.{rows_of}
 
 -- what a call says: its figures, wherever they lie in memory
 pub data Said : Type 0 where
@@ -21,13 +20,13 @@ pub data Said : Type 0 where
   opened : (metal : Metal) (time price : ℕ) (rows : List OpenRow) → Said
 
 abbrev pub said : Call → Said
-said (Quote time row price) = quote time row (price .0)
-said (Begin time prices) = begin time (pricesOf prices)
-said (Buy time row lots) = buy time row (lots .0)
-said (Sell time row lots) = sell time row (lots .0)
-said (Reduce time row line lots) = reduce time row line (lots .0)
+said (Quote time row price) = quote time row price.0
+said (Begin time prices) = begin time (prices_of prices)
+said (Buy time row lots) = buy time row lots.0
+said (Sell time row lots) = sell time row lots.0
+said (Reduce time row line lots) = reduce time row line lots.0
 said (Close time) = close time
 said (Suspend time) = suspend time
-said (Reissue time price) = reissue time (price .0)
-said (Announce time price) = announce time (price .0)
-said (Open time metal price rows) = opened metal time (price .0) (rowsOf rows)
+said (Reissue time price) = reissue time price.0
+said (Announce time price) = announce time price.0
+said (Open time metal price rows) = opened metal time price.0 (rows_of rows)

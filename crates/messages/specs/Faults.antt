@@ -1,22 +1,20 @@
-use Prim.Native.Nat.{ℕ, _+_, _*_}
-use Rattle·std.specs.declared.option.Option.{Option}
-use Rattle·std.specs.declared.option.Option.the-variants.{Some, None}
-use Rattle·rounds.specs.Faults as session
-use Rattle·rounds.specs.declared.faults.SessionFault.{SessionFault}
-use Rattle·rounds.specs.declared.faults.SessionFault.the-variants.{Time, Row, Amount, Price, Participant, Participants, LineLimit, TooManyPrices, Memory, WrongStage, Early, Over, NotOver, WrongKind, WrongSide, NothingRemains, NoSuchLine, EarlierRound, FewerLots, LinesUsedUp, Book, LastRound}
-use Rattle·messages·specs.declared.faults.Layer.{Layer}
-use Rattle·messages·specs.declared.faults.Layer.the-variants as layer
-use Rattle·messages·specs.declared.faults.MessageFault.{MessageFault}
-use Rattle·messages·specs.declared.faults.MessageFault.the-variants.{Misfit, Short, Session}
-use Rattle·messages·specs.declared.kinds.Kind.the-variants as kind
-use Rattle·messages·specs.declared.verbs.Verb.{Verb}
-use Rattle·messages·specs.Verbs.{placeOf}
+use Rattle.std.specs.Prelude.{ℕ, ◌+◌, ◌*◌, Some, None, Option}
+use Rattle.rounds.specs.Faults as session
+use Rattle.rounds.specs.declared.faults.SessionFault.{SessionFault}
+use Rattle.rounds.specs.declared.faults.SessionFault.TheVariants.{Time, Row, Amount, Price, Participant, Participants, LineLimit, TooManyPrices, Memory, WrongStage, Early, Over, NotOver, WrongKind, WrongSide, NothingRemains, NoSuchLine, EarlierRound, FewerLots, LinesUsedUp, Book, LastRound}
+use Rattle.messages.specs.declared.faults.Layer.{Layer}
+use Rattle.messages.specs.declared.faults.Layer.TheVariants as layer
+use Rattle.messages.specs.declared.faults.MessageFault.{MessageFault}
+use Rattle.messages.specs.declared.faults.MessageFault.TheVariants.{Misfit, Short, Session}
+use Rattle.messages.specs.declared.kinds.Kind.TheVariants as kind
+use Rattle.messages.specs.declared.verbs.Verb.{Verb}
+use Rattle.messages.specs.Verbs.{place_of}
 
 -- the number of a refusal
-abbrev pub numberOf : MessageFault → ℕ
-numberOf (Misfit i) = 1
-numberOf Short = 9
-numberOf (Session f) = session.numberOf f
+abbrev pub number_of : MessageFault → ℕ
+number_of (Misfit i) = 1
+number_of Short = 9
+number_of (Session f) = session.number_of f
 
 -- who refuses: the session passes on what the book refuses
 abbrev pub refuser : SessionFault → Layer
@@ -43,39 +41,39 @@ refuser LinesUsedUp = layer.Session
 refuser (Book f) = layer.Book
 refuser LastRound = layer.Session
 
-abbrev pub layerOf : MessageFault → Layer
-layerOf (Misfit i) = layer.Message
-layerOf Short = layer.Message
-layerOf (Session f) = refuser f
+abbrev pub layer_of : MessageFault → Layer
+layer_of (Misfit i) = layer.Message
+layer_of Short = layer.Message
+layer_of (Session f) = refuser f
 
 -- where in a message of a verb the session's refusal is placed: at the word at fault, else at the verb
-abbrev pub wordAtFault : Verb → SessionFault → ℕ
-wordAtFault v Time = placeOf kind.Time v
-wordAtFault v Row = placeOf kind.Row v
-wordAtFault v Amount = placeOf kind.Lots v
-wordAtFault v (Price i) = placeOf kind.Price v + i
-wordAtFault v (Participant i) = placeOf kind.Participant v + 2 * i
-wordAtFault v Participants = 0
-wordAtFault v LineLimit = 0
-wordAtFault v TooManyPrices = placeOf kind.Price v + 10000
-wordAtFault v Memory = 0
-wordAtFault v WrongStage = 0
-wordAtFault v Early = 0
-wordAtFault v Over = 0
-wordAtFault v NotOver = 0
-wordAtFault v WrongKind = 0
-wordAtFault v WrongSide = 0
-wordAtFault v NothingRemains = 0
-wordAtFault v NoSuchLine = 0
-wordAtFault v EarlierRound = 0
-wordAtFault v FewerLots = 0
-wordAtFault v LinesUsedUp = 0
-wordAtFault v (Book f) = 0
-wordAtFault v LastRound = 0
+abbrev pub word_at_fault : Verb → SessionFault → ℕ
+word_at_fault v Time = place_of kind.Time v
+word_at_fault v Row = place_of kind.Row v
+word_at_fault v Amount = place_of kind.Lots v
+word_at_fault v (Price i) = place_of kind.Price v + i
+word_at_fault v (Participant i) = place_of kind.Participant v + 2 * i
+word_at_fault v Participants = 0
+word_at_fault v LineLimit = 0
+word_at_fault v TooManyPrices = place_of kind.Price v + 10000
+word_at_fault v Memory = 0
+word_at_fault v WrongStage = 0
+word_at_fault v Early = 0
+word_at_fault v Over = 0
+word_at_fault v NotOver = 0
+word_at_fault v WrongKind = 0
+word_at_fault v WrongSide = 0
+word_at_fault v NothingRemains = 0
+word_at_fault v NoSuchLine = 0
+word_at_fault v EarlierRound = 0
+word_at_fault v FewerLots = 0
+word_at_fault v LinesUsedUp = 0
+word_at_fault v (Book f) = 0
+word_at_fault v LastRound = 0
 
 -- where a refusal is placed in a message of a verb; a call that came without words has place 0
-abbrev pub placedAt : Option Verb → MessageFault → ℕ
-placedAt v (Misfit i) = i
-placedAt v Short = 0
-placedAt None (Session f) = 0
-placedAt (Some v) (Session f) = wordAtFault v f
+abbrev pub placed_at : Option Verb → MessageFault → ℕ
+placed_at v (Misfit i) = i
+placed_at v Short = 0
+placed_at None (Session f) = 0
+placed_at (Some v) (Session f) = word_at_fault v f

@@ -1,15 +1,12 @@
-use Prim.Native.Nat.{ℕ, suc}
-use mathlib.Core.Bool.{cond}
-use mathlib.Core.List.{List, [], _∷_}
-use lib.ListN.{drop}
-use Rattle·messages·specs.declared.kinds.Kind.the-variants.{Verb}
-use Rattle·messages·specs.declared.reader.Reader.{Reader}
-use Rattle·messages·specs.Kinds.{isKind}
+use Rattle.std.specs.Prelude.{ℕ, suc, cond, List, [], ◌∷◌, drop}
+use Rattle.messages.specs.declared.kinds.Kind.TheVariants.{Verb}
+use Rattle.messages.specs.declared.reader.Reader.{Reader}
+use Rattle.messages.specs.Kinds.{is_kind}
 
 -- how many words stand before the next verb
 abbrev pub span : List ℕ → ℕ
 span [] = 0
-span (w ∷ ws) = cond (isKind Verb w) 0 (suc (span ws))
+span (w ∷ ws) = cond (is_kind Verb w) 0 (suc (span ws))
 
 abbrev pub onto : ℕ → List (List ℕ) → List (List ℕ)
 onto w [] = (w ∷ []) ∷ []
@@ -19,8 +16,8 @@ onto w (m ∷ ms) = (w ∷ m) ∷ ms
 abbrev pub messages : List ℕ → List (List ℕ)
 messages [] = []
 messages (w ∷ []) = (w ∷ []) ∷ []
-messages (w ∷ x ∷ ws) = cond (isKind Verb x) ((w ∷ []) ∷ messages (x ∷ ws)) (onto w (messages (x ∷ ws)))
+messages (w ∷ x ∷ ws) = cond (is_kind Verb x) ((w ∷ []) ∷ messages (x ∷ ws)) (onto w (messages (x ∷ ws)))
 
 -- what a reader has still to give
 abbrev pub unread : Reader → List ℕ
-unread s = drop (s .place) (s .words .now)
+unread s = drop s.place s.words.now

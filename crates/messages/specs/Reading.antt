@@ -1,24 +1,16 @@
-use Prim.Native.Nat.{ℕ, _+_}
-use mathlib.Core.Bool.{Bool, false, cond}
-use mathlib.Core.List.{List, [], _∷_, map}
-use lib.Dec.{eqb, leb}
-use lib.ListN.{length, getD, drop}
-use Rattle·std.specs.declared.option.Option.{Option}
-use Rattle·std.specs.declared.option.Option.the-variants.{Some, None}
-use Rattle·std.specs.declared.result.Result.{Result}
-use Rattle·std.specs.declared.result.Result.the-variants.{Ok, Err}
-use Rattle·messages·specs.declared.kinds.Kind.{Kind}
-use Rattle·messages·specs.declared.faults.MessageFault.{MessageFault}
-use Rattle·messages·specs.declared.faults.MessageFault.the-variants.{Misfit}
-use Rattle·messages·specs.declared.calls.Call.{Call}
-use Rattle·messages·specs.declared.calls.Metal.{Metal}
-use Rattle·messages·specs.declared.calls.Metal.the-variants.{Gold, Silver}
-use Rattle·messages·specs.declared.verbs.Verb.{Verb}
-use Rattle·messages·specs.declared.verbs.Verb.the-variants as verb
-use Rattle·messages·specs.Kinds.{isKind, figureOf}
-use Rattle·messages·specs.Verbs.{verbOf, first, again}
-use Rattle·messages·specs.Calls.{Said, quote, begin, buy, sell, reduce, close, suspend, reissue, announce, opened, said}
-use Rattle·messages·specs.Rows.{paired}
+use Rattle.std.specs.Prelude.{ℕ, ◌+◌, Bool, false, cond, List, [], ◌∷◌, map, length, drop, Some, None, Ok, Err, Option, Result, ◌==◌, nat_le, slice_index}
+use Rattle.messages.specs.declared.kinds.Kind.{Kind}
+use Rattle.messages.specs.declared.faults.MessageFault.{MessageFault}
+use Rattle.messages.specs.declared.faults.MessageFault.TheVariants.{Misfit}
+use Rattle.messages.specs.declared.calls.Call.{Call}
+use Rattle.messages.specs.declared.calls.Metal.{Metal}
+use Rattle.messages.specs.declared.calls.Metal.TheVariants.{Gold, Silver}
+use Rattle.messages.specs.declared.verbs.Verb.{Verb}
+use Rattle.messages.specs.declared.verbs.Verb.TheVariants as verb
+use Rattle.messages.specs.Kinds.{is_kind, figure_of}
+use Rattle.messages.specs.Verbs.{verb_of, first, again}
+use Rattle.messages.specs.Calls.{Said, quote, begin, buy, sell, reduce, close, suspend, reissue, announce, opened, said}
+use Rattle.messages.specs.Rows.{paired}
 
 -- what may come next, where `left` still has to and `more` may follow again
 abbrev pub coming : List Kind → List Kind → List Kind
@@ -28,7 +20,7 @@ coming more (k ∷ ks) = k ∷ ks
 -- whether a word is of the first of these kinds
 abbrev pub leads : List Kind → ℕ → Bool
 leads [] w = false
-leads (k ∷ ks) w = isKind k w
+leads (k ∷ ks) w = is_kind k w
 
 abbrev pub ended : List Kind → ℕ → Result (Unit {0}) MessageFault
 ended [] i = Ok tt
@@ -42,45 +34,45 @@ matched more left i (w ∷ ws) = cond (leads (coming more left) w) (matched more
 
 -- how many words a message may have
 abbrev pub fills : List Kind → List Kind → ℕ → Bool
-fills [] left n = eqb n (length left)
-fills (k ∷ ks) left n = leb (length left) n
+fills [] left n = n == length left
+fills (k ∷ ks) left n = nat_le (length left) n
 
 -- the figure of the word at a place
-abbrev pub figureAt : List ℕ → ℕ → ℕ
-figureAt m i = figureOf (getD m i 0)
+abbrev pub figure_at : List ℕ → ℕ → ℕ
+figure_at m i = figure_of (slice_index m i)
 
 abbrev pub opening : Metal → List ℕ → Said
-opening metal m = opened metal (figureAt m 1) (figureAt m 2) (paired (map figureOf (drop 3 m)))
+opening metal m = opened metal (figure_at m 1) (figure_at m 2) (paired (map figure_of (drop 3 m)))
 
 -- the call that a message of a verb makes
-abbrev pub callOf : Verb → List ℕ → Said
-callOf verb.Quote m = quote (figureAt m 1) (figureAt m 2) (figureAt m 3)
-callOf verb.Begin m = begin (figureAt m 1) (map figureOf (drop 2 m))
-callOf verb.Buy m = buy (figureAt m 1) (figureAt m 2) (figureAt m 3)
-callOf verb.Sell m = sell (figureAt m 1) (figureAt m 2) (figureAt m 3)
-callOf verb.Reduce m = reduce (figureAt m 1) (figureAt m 2) (figureAt m 3) (figureAt m 4)
-callOf verb.Close m = close (figureAt m 1)
-callOf verb.Suspend m = suspend (figureAt m 1)
-callOf verb.Reissue m = reissue (figureAt m 1) (figureAt m 2)
-callOf verb.Announce m = announce (figureAt m 1) (figureAt m 2)
-callOf verb.OpenGold m = opening Gold m
-callOf verb.OpenSilver m = opening Silver m
+abbrev pub call_of : Verb → List ℕ → Said
+call_of verb.Quote m = quote (figure_at m 1) (figure_at m 2) (figure_at m 3)
+call_of verb.Begin m = begin (figure_at m 1) (map figure_of (drop 2 m))
+call_of verb.Buy m = buy (figure_at m 1) (figure_at m 2) (figure_at m 3)
+call_of verb.Sell m = sell (figure_at m 1) (figure_at m 2) (figure_at m 3)
+call_of verb.Reduce m = reduce (figure_at m 1) (figure_at m 2) (figure_at m 3) (figure_at m 4)
+call_of verb.Close m = close (figure_at m 1)
+call_of verb.Suspend m = suspend (figure_at m 1)
+call_of verb.Reissue m = reissue (figure_at m 1) (figure_at m 2)
+call_of verb.Announce m = announce (figure_at m 1) (figure_at m 2)
+call_of verb.OpenGold m = opening Gold m
+call_of verb.OpenSilver m = opening Silver m
 
 abbrev pub answered : {A B : Type 0} → Result A MessageFault → B → Result B MessageFault
 answered (Ok u) s = Ok s
 answered (Err e) s = Err e
 
-abbrev pub readingAs : Option Verb → List ℕ → Result Said MessageFault
-readingAs None m = Err (Misfit 0)
-readingAs (Some v) m = answered (matched (again v) (first v) 0 m) (callOf v m)
+abbrev pub reading_as : Option Verb → List ℕ → Result Said MessageFault
+reading_as None m = Err (Misfit 0)
+reading_as (Some v) m = answered (matched (again v) (first v) 0 m) (call_of v m)
 
 -- the verb of a message is the one that its first word names
-unfoldable pub verbNamed : List ℕ → Option Verb
-verbNamed m = verbOf (getD m 0 0)
+unfoldable pub verb_named : List ℕ → Option Verb
+verb_named m = verb_of (slice_index m 0)
 
 -- what a message says; one that names no verb is refused at its first word
 unfoldable pub reading : List ℕ → Result Said MessageFault
-reading m = readingAs (verbNamed m) m
+reading m = reading_as (verb_named m) m
 
 abbrev pub told : Result Call MessageFault → Result Said MessageFault
 told (Ok c) = Ok (said c)

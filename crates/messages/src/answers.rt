@@ -1,19 +1,12 @@
 //! What comes back for a message: two words.
 
-ghost use mathlib.Core.Path.{_≡_};
-ghost use Rattle·messages·specs.Answers.{answerWords};
+ghost use Rattle.std.specs.Prelude.{◌≡◌};
+ghost use Rattle.messages.specs.Answers.{answer_words};
+
 use crate::faults::MessageFault;
-use crate::faults::MessageFaultDebug;
-use crate::faults::MessageFaultPartialEq;
-use crate::kinds::Kind;
-use crate::kinds::word;
+use crate::kinds::{Kind, word};
 use crate::verbs::Verb;
-use rounds::answers::Standing;
-use rounds::answers::StandingDebug;
-use rounds::answers::StandingPartialEq;
-use rounds::answers::Tendered;
-use rounds::answers::TenderedDebug;
-use rounds::answers::TenderedPartialEq;
+use rounds::answers::{Standing, Tendered};
 
 /// What an accepted call answers.
 #[derive(Clone, Copy, PartialEq, Eq, Debug)]
@@ -27,7 +20,7 @@ pub enum Answer {
 /// The two words of an answer to a message of this verb: line and lots of a tender, stage and price of any other call,
 /// number and place of a refusal. The engine's figures all fit a word; of a longer one its low 28 bits are written.
 pub fn answer_words(answer: Result<Answer, MessageFault>, verb: Option<Verb>) -> [u32; 2]
-    ensures { λ r. ⌜ r ≡ answerWords answer verb ⌝ }
+    ensures { result ≡ answer_words answer verb }
 {
     match answer {
         Ok(Answer::Tendered(tender)) => [

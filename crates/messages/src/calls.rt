@@ -2,8 +2,7 @@
 
 use crate::prices::Prices;
 use crate::rows::Rows;
-use measures::Lots;
-use measures::Ticks;
+use measures::{Lots, Ticks};
 
 /// Which contract a session trades.
 #[derive(Clone, Copy)]

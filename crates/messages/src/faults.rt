@@ -1,14 +1,12 @@
 //! Why a message is refused, and where.
 
-ghost use mathlib.Core.Path.{_≡_};
-ghost use Prim.Native.Nat.{_%_, _^_};
-ghost use Rattle·messages·specs.Faults.{numberOf, layerOf, placedAt, wordAtFault};
-ghost use Rattle·messages·specs.declared.faults.MessageFault.the-variants.{Session};
+ghost use Rattle.std.specs.Prelude.{◌≡◌, ◌%◌, ◌^◌};
+ghost use Rattle.messages.specs.Faults.{number_of, layer_of, placed_at, word_at_fault};
+ghost use Rattle.messages.specs.declared.faults.MessageFault.TheVariants.{Session};
+
 use crate::kinds::Kind;
 use crate::verbs::Verb;
 use rounds::faults::SessionFault;
-use rounds::faults::SessionFaultDebug;
-use rounds::faults::SessionFaultPartialEq;
 
 /// A refusal of a message.
 #[derive(Clone, Copy, PartialEq, Eq, Debug)]
@@ -32,8 +30,8 @@ pub enum Layer {
     Message,
 }
 
-pub impl From<SessionFault> for MessageFault as MessageFaultFromSession {
-    ghost converts = { λ f r. r ≡ Session f };
+impl From<SessionFault> for MessageFault {
+    ghost from_gives = { λ f r. r ≡ Session f };
 
     fn from(refusal: SessionFault) -> MessageFault {
         MessageFault::Session(refusal)
@@ -43,7 +41,7 @@ pub impl From<SessionFault> for MessageFault as MessageFaultFromSession {
 impl MessageFault {
     /// The number of the refusal.
     pub fn number(self) -> u32
-        ensures { λ r. ⌜ r ≡ numberOf self ⌝ }
+        ensures { result ≡ number_of self }
     {
         match self {
             MessageFault::Misfit { .. } => 1,
@@ -54,7 +52,7 @@ impl MessageFault {
 
     /// Who refuses.
     pub fn layer(self) -> Layer
-        ensures { λ r. ⌜ r ≡ layerOf self ⌝ }
+        ensures { result ≡ layer_of self }
     {
         match self {
             MessageFault::Misfit { .. } => Layer::Message,
@@ -67,7 +65,7 @@ impl MessageFault {
     /// Where the refusal stands in a message of this verb; 0 for a call made without words. A place is cut to 64 bits, which
     /// those of the engine have: its messages end before place 16,384.
     pub fn place(self, verb: Option<Verb>) -> usize
-        ensures { λ r. ⌜ r ≡ placedAt verb self % 2 ^ 64 ⌝ }
+        ensures { result ≡ placed_at verb self % 2 ^ 64 }
     {
         match (self, verb) {
             (MessageFault::Misfit { place }, _) => place,
@@ -79,7 +77,7 @@ impl MessageFault {
 
 /// The place of the word that the session refuses, else of the verb, cut to 64 bits.
 fn word_at_fault(fault: SessionFault, verb: Verb) -> usize
-    ensures { λ r. ⌜ r ≡ wordAtFault verb fault % 2 ^ 64 ⌝ }
+    ensures { result ≡ word_at_fault verb fault % 2 ^ 64 }
 {
     match fault {
         SessionFault::Time => verb.place_of(Kind::Time),
@@ -87,7 +85,8 @@ fn word_at_fault(fault: SessionFault, verb: Verb) -> usize
         SessionFault::Amount => verb.place_of(Kind::Lots),
         SessionFault::Price { at } => verb.place_of(Kind::Price).wrapping_add(at),
         SessionFault::TooManyPrices => verb.place_of(Kind::Price).wrapping_add(10_000),
-        SessionFault::Participant { row } => verb.place_of(Kind::Participant)
+        SessionFault::Participant { row } => verb
+            .place_of(Kind::Participant)
             .wrapping_add(row.wrapping_mul(2)),
         _ => 0,
     }

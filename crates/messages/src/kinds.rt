@@ -1,7 +1,7 @@
 //! A word: four bits that say what it is about, and a figure of 28 bits.
 
-ghost use mathlib.Core.Path.{_≡_};
-ghost use Rattle·messages·specs.Kinds.{kindNumber, isKind, figureOf, wordOf};
+ghost use Rattle.std.specs.Prelude.{◌≡◌};
+ghost use Rattle.messages.specs.Kinds.{kind_number, is_kind, figure_of, word_of};
 
 /// What a word is about: its top four bits.
 #[derive(Clone, Copy)]
@@ -37,7 +37,7 @@ pub enum Kind {
 impl Kind {
     /// The number of the kind.
     pub fn number(self) -> u32
-        ensures { λ r. ⌜ r ≡ kindNumber self ⌝ }
+        ensures { result ≡ kind_number self }
     {
         self as u32
     }
@@ -45,21 +45,21 @@ impl Kind {
 
 /// Whether a word is of a kind.
 pub fn is_kind(word: u32, kind: Kind) -> bool
-    ensures { λ r. ⌜ r ≡ isKind kind word ⌝ }
+    ensures { result ≡ is_kind kind word }
 {
     word >> 28 == kind.number()
 }
 
 /// The figure of a word: its low 28 bits.
 pub fn figure(word: u32) -> u32
-    ensures { λ r. ⌜ r ≡ figureOf word ⌝ }
+    ensures { result ≡ figure_of word }
 {
     word % 0x1000_0000
 }
 
 /// The word of a kind that holds the low 28 bits of a figure.
 pub fn word(kind: Kind, number: u32) -> u32
-    ensures { λ r. ⌜ r ≡ wordOf kind number ⌝ }
+    ensures { result ≡ word_of kind number }
 {
     kind.number() * 0x1000_0000 + figure(number)
 }

@@ -1,5 +1,7 @@
 //! Words of 32 bits: messages read as calls, calls written as messages, answers as words.
 
+#![tactic(auto)]
+
 pub mod answers;
 pub mod calls;
 pub mod faults;

@@ -1,10 +1,9 @@
 //! The executed prices of a message, or of a caller without words.
 
-ghost use mathlib.Core.Path.{_≡_};
-ghost use mathlib.Core.List.{map};
-ghost use lib.ListN.{getD};
-ghost use Rattle·messages·specs.Kinds.{figureOf};
-ghost use Rattle·messages·specs.Prices.{pricesOf, ticks};
+ghost use Rattle.std.specs.Prelude.{◌≡◌, map, slice_index};
+ghost use Rattle.messages.specs.Kinds.{figure_of};
+ghost use Rattle.messages.specs.Prices.{prices_of, ticks};
+
 use crate::kinds::figure;
 use measures::Ticks;
 use session::lists::PriceList;
@@ -20,7 +19,7 @@ pub enum Prices<'a> {
 
 /// The figure of the word at a place, 0 past the end.
 fn figure_at(words: &[u32], place: usize) -> u32
-    ensures { λ r. ⌜ r ≡ getD (map figureOf (now (words .entry))) place 0 ⌝ }
+    ensures { result ≡ slice_index (map figure_of words.now) place }
 {
     if place < words.len() {
         figure(words[place])
@@ -31,7 +30,7 @@ fn figure_at(words: &[u32], place: usize) -> u32
 
 /// The price at a place, 0 past the end.
 fn price_at(prices: &[Ticks], place: usize) -> Ticks
-    ensures { λ r. ⌜ r .0 ≡ getD (map ticks (now (prices .entry))) place 0 ⌝ }
+    ensures { result.0 ≡ slice_index (map ticks prices.now) place }
 {
     if place < prices.len() {
         prices[place]
@@ -40,8 +39,8 @@ fn price_at(prices: &[Ticks], place: usize) -> Ticks
     }
 }
 
-pub impl<'a> PriceList for Prices<'a> as PricesListed {
-    ghost prices = { pricesOf };
+impl<'a> PriceList for Prices<'a> {
+    ghost prices = { prices_of };
 
     fn count(&self) -> usize {
         match *self {

@@ -1,28 +1,22 @@
 //! Messages as calls.
 
-ghost use mathlib.Core.Path.{_≡_};
-ghost use mathlib.Core.Bool.{true};
-ghost use lib.ListN.{length};
-ghost use Rattle·std.specs.Vec.{made};
-ghost use Rattle·messages·specs.Writing.{wordsOf};
-ghost use Rattle·messages·specs.Verbs.{first, again};
-ghost use Rattle·messages·specs.Calls.{said};
-ghost use Rattle·messages·specs.Reading.{matched, fills, coming, verbNamed, reading, told, callOf};
-use crate::calls::Call;
-use crate::calls::Metal;
+ghost use Rattle.std.specs.Prelude.{◌≡◌, true, length, IfOk};
+ghost use Rattle.messages.specs.Writing.{words_of};
+ghost use Rattle.messages.specs.Verbs.{first, again};
+ghost use Rattle.messages.specs.Calls.{said};
+ghost use Rattle.messages.specs.Reading.{matched, fills, coming, verb_named, reading, told, call_of};
+
+use crate::calls::{Call, Metal};
 use crate::faults::MessageFault;
-use crate::kinds::Kind;
-use crate::kinds::figure;
-use crate::kinds::is_kind;
+use crate::kinds::{Kind, figure, is_kind};
 use crate::prices::Prices;
 use crate::rows::Rows;
 use crate::verbs::Verb;
-use measures::Lots;
-use measures::Ticks;
+use measures::{Lots, Ticks};
 
 /// The kinds that may come next, where `left` still have to and `more` may follow again.
 pub(crate) fn coming<'a>(more: &'a [Kind], left: &'a [Kind]) -> &'a [Kind]
-    ensures { λ r. ⌜ now r ≡ coming (now (more .entry)) (now (left .entry)) ⌝ }
+    ensures { result.now ≡ coming more.now left.now }
 {
     match left {
         [] => more,
@@ -32,7 +26,7 @@ pub(crate) fn coming<'a>(more: &'a [Kind], left: &'a [Kind]) -> &'a [Kind]
 
 /// Refuses the first word that does not fit, or the end where one is missing.
 fn check(message: &[u32], kinds: &[Kind], more: &[Kind]) -> Result<(), MessageFault>
-    ensures { λ r. ⌜ r ≡ matched (now (more .entry)) (now (kinds .entry)) 0 (now (message .entry)) ⌝ }
+    ensures { result ≡ matched more.now kinds.now 0 message.now }
 {
     let mut left = kinds;
     for (place, word) in message.iter().enumerate() {
@@ -54,7 +48,7 @@ fn check(message: &[u32], kinds: &[Kind], more: &[Kind]) -> Result<(), MessageFa
 
 /// The verb of a message, which its first word names.
 pub fn verb_of(message: &[u32]) -> Option<Verb>
-    ensures { λ r. ⌜ r ≡ verbNamed (now (message .entry)) ⌝ }
+    ensures { result ≡ verb_named message.now }
 {
     let [word, ..] = message else {
         return None;
@@ -64,8 +58,8 @@ pub fn verb_of(message: &[u32]) -> Option<Verb>
 
 /// The call that a message makes, with no word copied; or the first word that does not fit.
 pub fn read(message: &[u32]) -> Result<Call<'_>, MessageFault>
-    ensures answer { λ r. ⌜ told r ≡ reading (now (message .entry)) ⌝ }
-    ensures back { λ r. ⌜ made r (λ c. wordsOf (said c) ≡ now (message .entry)) ⌝ }
+    ensures answer { told result ≡ reading message.now }
+    ensures back { IfOk result (λ c. words_of (said c) ≡ message.now) }
 {
     let Some(verb) = verb_of(message) else {
         return Err(MessageFault::Misfit { place: 0 });
@@ -76,8 +70,8 @@ pub fn read(message: &[u32]) -> Result<Call<'_>, MessageFault>
 
 /// The call of a message that is as long as its verb asks.
 fn call_of(verb: Verb, message: &[u32]) -> Call<'_>
-    requires { ⌜ fills (again verb) (first verb) (length (now message)) ≡ true ⌝ }
-    ensures { λ r. ⌜ said r ≡ callOf verb (now (message .entry)) ⌝ }
+    requires { fills (again verb) (first verb) (length message.now) ≡ true }
+    ensures { said result ≡ call_of verb message.now }
 {
     match (verb, message) {
         (Verb::Quote, [_, time, row, price]) => Call::Quote {

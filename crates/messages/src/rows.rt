@@ -1,10 +1,9 @@
 //! The rows of an opening: who takes part, and with how much money.
 
-ghost use mathlib.Core.Path.{_≡_};
-ghost use mathlib.Core.List.{map};
-ghost use lib.ListN.{getD};
-ghost use Rattle·messages·specs.Kinds.{figureOf};
-ghost use Rattle·messages·specs.Rows.{rowOf, blankRow, participantFigure, paired, rowsOf, listedOf};
+ghost use Rattle.std.specs.Prelude.{◌≡◌, map, slice_index_or};
+ghost use Rattle.messages.specs.Kinds.{figure_of};
+ghost use Rattle.messages.specs.Rows.{row_of, blank_row, participant_figure, paired, rows_of, listed_of};
+
 use crate::kinds::figure;
 use participants::roster::Roster;
 use participants::rows::Listed;
@@ -20,7 +19,7 @@ pub struct OpenRow {
 impl OpenRow {
     /// The row of two figures.
     fn of(participant: u32, millions: u32) -> OpenRow
-        ensures { λ r. ⌜ r ≡ rowOf participant millions ⌝ }
+        ensures { result ≡ row_of participant millions }
     {
         OpenRow {
             kind: participant / 0x1_0000,
@@ -32,7 +31,7 @@ impl OpenRow {
     /// The participant as one figure. One with a kind over 12 bits or a carrier over 16 has none: 2^28, which no word holds,
     /// stands for it, so that the writer refuses it at its place.
     pub(crate) fn participant(self) -> u32
-        ensures { λ r. ⌜ r ≡ participantFigure self ⌝ }
+        ensures { result ≡ participant_figure self }
     {
         if self.kind < 0x1000 && self.carrier < 0x1_0000 {
             self.kind * 0x1_0000 + self.carrier
@@ -53,7 +52,7 @@ pub enum Rows<'a> {
 
 /// The row of the words at twice its number, and behind; one of noughts past the last whole row.
 fn pair_at(words: &[u32], row: usize) -> OpenRow
-    ensures { λ r. ⌜ r ≡ getD (paired (map figureOf (now (words .entry)))) row blankRow ⌝ }
+    ensures { result ≡ slice_index_or (paired (map figure_of words.now)) row blank_row }
 {
     if row < words.len() / 2 {
         OpenRow::of(figure(words[2 * row]), figure(words[2 * row + 1]))
@@ -64,7 +63,7 @@ fn pair_at(words: &[u32], row: usize) -> OpenRow
 
 /// The row at a place; one of noughts past the end.
 fn row_at(rows: &[OpenRow], row: usize) -> OpenRow
-    ensures { λ r. ⌜ r ≡ getD (now (rows .entry)) row blankRow ⌝ }
+    ensures { result ≡ slice_index_or rows.now row blank_row }
 {
     if row < rows.len() {
         rows[row]
@@ -76,7 +75,7 @@ fn row_at(rows: &[OpenRow], row: usize) -> OpenRow
 impl<'a> Rows<'a> {
     /// The row at a place; one of noughts past the end.
     pub fn at(&self, row: usize) -> OpenRow
-        ensures { λ r. ⌜ r ≡ getD (rowsOf (now (self .entry))) row blankRow ⌝ }
+        ensures { result ≡ slice_index_or (rows_of self.now) row blank_row }
     {
         match *self {
             Rows::Words(words) => pair_at(words, row),
@@ -85,8 +84,8 @@ impl<'a> Rows<'a> {
     }
 }
 
-pub impl<'a> Roster for Rows<'a> as RowsListed {
-    ghost listed = { λ s. map listedOf (rowsOf s) };
+impl<'a> Roster for Rows<'a> {
+    ghost listed = { λ s. map listed_of (rows_of s) };
 
     fn rows(&self) -> usize {
         match *self {

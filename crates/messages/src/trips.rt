@@ -1,9 +1,8 @@
 //! What is written reads back, and what is read writes back.
 
-ghost use mathlib.Core.Path.{_≡_};
-ghost use lib.ListN.{take};
-ghost use Rattle·std.specs.Vec.{made, refused};
-ghost use Rattle·messages·specs.Trips.{rewriting, ReadsBack, WritesBack, Rejoins};
+ghost use Rattle.std.specs.Prelude.{◌≡◌, take, IfOk, OnErr};
+ghost use Rattle.messages.specs.Trips.{rewriting, ReadsBack, WritesBack, Rejoins};
+
 use crate::faults::MessageFault;
 use crate::reading::read;
 use crate::writing::write;
@@ -12,12 +11,12 @@ use crate::writing::write;
 /// a call that is written reads back as that call, a message that is read writes back as its words, and the messages of a
 /// list, joined, are the list.
 pub fn rewrite(message: &[u32], out: &mut [u32]) -> Result<usize, MessageFault>
-    ensures outcome { λ r. ⌜ (r, now (out .exit)) ≡ rewriting (now (message .entry)) (now (out .entry)) ⌝ }
-    ensures same { λ r. ⌜ made r (λ n. take n (now (out .exit)) ≡ now (message .entry)) ⌝ }
-    ensures kept { λ r. ⌜ refused r (λ _. now (out .exit) ≡ now (out .entry)) ⌝ }
-    ensures reads { λ _. ⌜ ReadsBack ⌝ }
-    ensures writes { λ _. ⌜ WritesBack ⌝ }
-    ensures rejoins { λ _. ⌜ Rejoins ⌝ }
+    ensures outcome { (result, out.new) ≡ rewriting message.now out.old }
+    ensures same { IfOk result (λ n. take n out.new ≡ message.now) }
+    ensures kept { OnErr result (out.new ≡ out.old) }
+    ensures reads { ReadsBack }
+    ensures writes { WritesBack }
+    ensures rejoins { Rejoins }
 {
     let call = read(message)?;
     write(&call, out)

@@ -1,8 +1,8 @@
 //! What a message can ask for, and the words that it then has.
 
-ghost use mathlib.Core.Path.{_≡_};
-ghost use Prim.Native.Nat.{_≤_};
-ghost use Rattle·messages·specs.Verbs.{verbNumber, verbOf, first, again, found, placeOf};
+ghost use Rattle.std.specs.Prelude.{◌≡◌, ◌≤◌};
+ghost use Rattle.messages.specs.Verbs.{verb_number, verb_of, first, again, found, place_of};
+
 use crate::kinds::Kind;
 
 /// What a message asks for.
@@ -34,8 +34,8 @@ pub enum Verb {
 
 /// Where a kind first stands among these, the first of which has place `start`.
 fn find(kinds: &[Kind], kind: Kind, start: usize) -> Option<usize>
-    requires { ⌜ start ≤ 16 ⌝ }
-    ensures { λ r. ⌜ r ≡ found kind start (now (kinds .entry)) ⌝ }
+    requires { start ≤ 16 }
+    ensures { result ≡ found kind start kinds.now }
 {
     for (place, one) in kinds.iter().enumerate() {
         if one.number() == kind.number() {
@@ -48,14 +48,14 @@ fn find(kinds: &[Kind], kind: Kind, start: usize) -> Option<usize>
 impl Verb {
     /// The number of the verb.
     pub fn number(self) -> u32
-        ensures { λ r. ⌜ r ≡ verbNumber self ⌝ }
+        ensures { result ≡ verb_number self }
     {
         self as u32
     }
 
     /// The verb that a word names.
     pub fn of(word: u32) -> Option<Verb>
-        ensures { λ r. ⌜ r ≡ verbOf word ⌝ }
+        ensures { result ≡ verb_of word }
     {
         match word {
             0x6000_0001 => Some(Verb::Quote),
@@ -75,7 +75,7 @@ impl Verb {
 
     /// The kinds of the words that each message of this verb has, in their order.
     pub fn first(self) -> &'static [Kind]
-        ensures { λ r. ⌜ now r ≡ first self ⌝ }
+        ensures { result.now ≡ first self }
     {
         match self {
             Verb::Quote => &[Kind::Verb, Kind::Time, Kind::Row, Kind::Price],
@@ -94,7 +94,7 @@ impl Verb {
 
     /// The kinds of the words that may follow those any number of times.
     pub fn again(self) -> &'static [Kind]
-        ensures { λ r. ⌜ now r ≡ again self ⌝ }
+        ensures { result.now ≡ again self }
     {
         match self {
             Verb::Begin => &[Kind::Price],
@@ -106,7 +106,7 @@ impl Verb {
 
     /// Where the first word of a kind stands in a message of this verb; 0, at the verb, if it has none.
     pub fn place_of(self, kind: Kind) -> usize
-        ensures { λ r. ⌜ r ≡ placeOf kind self ⌝ }
+        ensures { result ≡ place_of kind self }
     {
         let first = self.first();
         if let Some(place) = find(first, kind, 0) {

@@ -1,25 +1,17 @@
 //! Calls as messages.
 
-ghost use mathlib.Core.Path.{_≡_};
-ghost use mathlib.Core.Bool.{true};
-ghost use mathlib.Core.List.{_∷_, _++_};
-ghost use Prim.Native.Nat.{_≤_, _<_, _^_};
-ghost use lib.ListN.{length, getD, take, drop};
-ghost use Rattle·std.specs.Vec.{made, refused};
-ghost use Rattle·std.specs.declared.result.Result.the-variants.{Ok};
-ghost use Rattle·messages·specs.Verbs.{verbNumber, first, again};
-ghost use Rattle·messages·specs.Calls.{said};
-ghost use Rattle·messages·specs.Reading.{reading};
-ghost use Rattle·messages·specs.Writing.{opens, tailFigures, draftFigures, stamped, counted, wordsOf, writable, firstOver, writingFigures, writing};
-use crate::calls::Call;
-use crate::calls::Metal;
+ghost use Rattle.std.specs.Prelude.{◌≡◌, ◌^◌, ◌<◌, ◌≤◌, true, ◌∷◌, ◌++◌, length, take, drop, IfOk, Ok, OnErr, slice_index};
+ghost use Rattle.messages.specs.Verbs.{verb_number, first, again};
+ghost use Rattle.messages.specs.Calls.{said};
+ghost use Rattle.messages.specs.Reading.{reading};
+ghost use Rattle.messages.specs.Writing.{opens, tail_figures, draft_figures, stamped, counted, words_of, writable, first_over, writing_figures, writing};
+
+use crate::calls::{Call, Metal};
 use crate::faults::MessageFault;
 use crate::kinds::word;
 use crate::prices::Prices;
-use crate::prices::PricesListed;
 use crate::reading::coming;
 use crate::rows::Rows;
-use crate::rows::RowsListed;
 use crate::verbs::Verb;
 use participants::roster::Roster;
 use session::lists::PriceList;
@@ -34,8 +26,8 @@ enum Tail<'a> {
 impl<'a> Tail<'a> {
     /// How many figures there are, in a type that holds twice any count.
     fn len(self) -> u128
-        ensures count { λ r. ⌜ r ≡ length (tailFigures (self .entry)) ⌝ }
-        ensures small { λ r. ⌜ r < 2 ^ 65 ⌝ }
+        ensures count { result ≡ length (tail_figures self.entry) }
+        ensures small { result < 2 ^ 65 }
     {
         match self {
             Tail::Prices(prices) => prices.count() as u128,
@@ -45,7 +37,7 @@ impl<'a> Tail<'a> {
 
     /// The figure at a place, 0 past the end.
     fn at(self, place: usize) -> u32
-        ensures { λ r. ⌜ r ≡ getD (tailFigures (self .entry)) place 0 ⌝ }
+        ensures { result ≡ slice_index (tail_figures self.entry) place }
     {
         match self {
             Tail::Prices(prices) => prices.price(place).0,
@@ -72,14 +64,14 @@ struct Draft<'f, 't> {
 impl<'f, 't> Draft<'f, 't> {
     /// How many figures there are.
     fn len(self) -> u128
-        ensures { λ r. ⌜ r ≡ length (draftFigures (self .entry)) ⌝ }
+        ensures { result ≡ length (draft_figures self.entry) }
     {
         1 + self.fields.len() as u128 + self.tail.len()
     }
 
     /// The figure at a place, 0 past the end.
     fn at(self, place: usize) -> u32
-        ensures { λ r. ⌜ r ≡ getD (draftFigures (self .entry)) place 0 ⌝ }
+        ensures { result ≡ slice_index (draft_figures self.entry) place }
     {
         if place == 0 {
             return self.verb.number();
@@ -95,15 +87,15 @@ impl<'f, 't> Draft<'f, 't> {
 
 /// Whether the word at a place of a message can hold a figure.
 fn writable(place: usize, figure: u32) -> bool
-    ensures { λ r. ⌜ r ≡ writable place figure ⌝ }
+    ensures { result ≡ writable place figure }
 {
     figure < 0x1000_0000 && place < 16_384
 }
 
 /// The first place whose figure cannot be written there.
 fn first_over(draft: Draft, len: usize) -> Option<usize>
-    requires { ⌜ len ≡ length (draftFigures draft) ⌝ }
-    ensures { λ r. ⌜ r ≡ firstOver 0 (draftFigures (draft .entry)) ⌝ }
+    requires { len ≡ length (draft_figures draft) }
+    ensures { result ≡ first_over 0 (draft_figures draft.entry) }
 {
     for place in 0..len {
         if !writable(place, draft.at(place)) {
@@ -115,10 +107,10 @@ fn first_over(draft: Draft, len: usize) -> Option<usize>
 
 /// Writes the figures as words of the kinds that have to come.
 fn fill(draft: Draft, len: usize, out: &mut [u32])
-    requires counted { ⌜ counted (again (draft .verb)) (first (draft .verb)) (draftFigures draft) ≡ true ⌝ }
-    requires whole { ⌜ len ≡ length (draftFigures draft) ⌝ }
-    requires room { ⌜ len ≤ length (now out) ⌝ }
-    ensures { λ _. ⌜ now (out .exit) ≡ stamped (again (draft .entry .verb)) (first (draft .entry .verb)) (draftFigures (draft .entry)) ++ drop len (now (out .entry)) ⌝ }
+    requires counted { counted (again draft.verb) (first draft.verb) (draft_figures draft) ≡ true }
+    requires whole { len ≡ length (draft_figures draft) }
+    requires room { len ≤ length out.old }
+    ensures { out.new ≡ stamped (again draft.entry.verb) (first draft.entry.verb) (draft_figures draft.entry) ++ drop len out.old }
 {
     let more = draft.verb.again();
     let mut left = draft.verb.first();
@@ -133,8 +125,8 @@ fn fill(draft: Draft, len: usize, out: &mut [u32])
 
 /// Writes a draft, unless there is no room for it or a figure does not fit.
 fn put(draft: Draft, out: &mut [u32]) -> Result<usize, MessageFault>
-    requires { ⌜ counted (again (draft .verb)) (first (draft .verb)) (draftFigures draft) ≡ true ⌝ }
-    ensures { λ r. ⌜ (r, now (out .exit)) ≡ writingFigures (draft .entry .verb) (draftFigures (draft .entry)) (now (out .entry)) ⌝ }
+    requires { counted (again draft.verb) (first draft.verb) (draft_figures draft) ≡ true }
+    ensures { (result, out.new) ≡ writing_figures draft.entry.verb (draft_figures draft.entry) out.old }
 {
     let words = draft.len();
     if (out.len() as u128) < words {
@@ -150,8 +142,8 @@ fn put(draft: Draft, out: &mut [u32]) -> Result<usize, MessageFault>
 
 /// Writes a message that ends with its fixed fields.
 fn put_fields(verb: Verb, fields: &[u32], out: &mut [u32]) -> Result<usize, MessageFault>
-    requires { ⌜ counted (again verb) (first verb) (verbNumber verb ∷ now fields) ≡ true ⌝ }
-    ensures { λ r. ⌜ (r, now (out .exit)) ≡ writingFigures verb (verbNumber verb ∷ now (fields .entry)) (now (out .entry)) ⌝ }
+    requires { counted (again verb) (first verb) (verb_number verb ∷ fields.now) ≡ true }
+    ensures { (result, out.new) ≡ writing_figures verb (verb_number verb ∷ fields.now) out.old }
 {
     // Nothing follows: a tail of no prices, since an empty case of the tail would lend nothing and is not covered.
     let tail = Tail::Prices(Prices::Words(&[]));
@@ -160,7 +152,7 @@ fn put_fields(verb: Verb, fields: &[u32], out: &mut [u32]) -> Result<usize, Mess
 
 /// The verb that opens a session.
 fn opens(metal: Metal) -> Verb
-    ensures { λ r. ⌜ r ≡ opens metal ⌝ }
+    ensures { result ≡ opens metal }
 {
     match metal {
         Metal::Gold => Verb::OpenGold,
@@ -170,7 +162,7 @@ fn opens(metal: Metal) -> Verb
 
 /// Writes a call as its verb asks.
 fn put_call(call: &Call, out: &mut [u32]) -> Result<usize, MessageFault>
-    ensures { λ r. ⌜ (r, now (out .exit)) ≡ writing (said (now (call .entry))) (now (out .entry)) ⌝ }
+    ensures { (result, out.new) ≡ writing (said call.now) out.old }
 {
     match *call {
         Call::Quote { time, row, price } => put_fields(Verb::Quote, &[time, row, price.0], out),
@@ -219,10 +211,10 @@ fn put_call(call: &Call, out: &mut [u32]) -> Result<usize, MessageFault>
 /// Writes a call as a message at the front of `out`, and says how many words it has. Refused, it leaves `out` as it was:
 /// where `out` is too short, else at the first figure over 28 bits, carrier over 16 bits, or word past a list's 16,384.
 pub fn write(call: &Call, out: &mut [u32]) -> Result<usize, MessageFault>
-    ensures outcome { λ r. ⌜ (r, now (out .exit)) ≡ writing (said (now (call .entry))) (now (out .entry)) ⌝ }
-    ensures front { λ r. ⌜ made r (λ n. take n (now (out .exit)) ≡ wordsOf (said (now (call .entry)))) ⌝ }
-    ensures back { λ r. ⌜ made r (λ n. reading (take n (now (out .exit))) ≡ Ok (said (now (call .entry)))) ⌝ }
-    ensures kept { λ r. ⌜ refused r (λ _. now (out .exit) ≡ now (out .entry)) ⌝ }
+    ensures outcome { (result, out.new) ≡ writing (said call.now) out.old }
+    ensures front { IfOk result (λ n. take n out.new ≡ words_of (said call.now)) }
+    ensures back { IfOk result (λ n. reading (take n out.new) ≡ Ok (said call.now)) }
+    ensures kept { OnErr result (out.new ≡ out.old) }
 {
     put_call(call, out)
 }

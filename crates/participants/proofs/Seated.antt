@@ -1,45 +1,36 @@
-use Prim.Native.Nat.{ℕ, zero, suc, _+_, _<_}
-use mathlib.Core.Bool.{Bool, true, false, cond}
-use mathlib.Core.List.{List, [], _∷_, _++_, map}
-use mathlib.Core.Logic.{_⊎_, ⊎-elim}
-use mathlib.Core.Path.{_≡_, ap, subst, _∙_}
-use lib.Dec.{eqb}
-use native.Mathlib.Numerals.{add-one}
-use native.Mathlib.Omega.{arith}
-use Rattle·std.proofs.shelf.Counted.{map-counting-more}
-use Rattle·std.proofs.shelf.Sums.{sumBy-push}
-use Rattle·std.proofs.shelf.Ways.{tells, eqb-tells}
-use Rattle·std.specs.shelf.Lists.{countBy}
-use Rattle·std.specs.declared.result.Result.the-variants.{Ok, Err}
-use Rattle·rounds.specs.Gates.{Check}
-use Rattle·participants·specs.Rosters.{participantAt, rowFits, rowsFit, copied}
-use Rattle·participants·specs.Participants.{memberCount, seatCount, isFixing, isSeat}
-use Rattle·rounds.specs.Gates.{thenOk}
-use Rattle·rounds.specs.declared.faults.SessionFault.{SessionFault}
-use Rattle·participants·specs.declared.rows.Listed.{Listed}
+use Rattle.std.proofs.Common.{◌≡◌, ℕ, zero, suc, ◌+◌, ◌<◌, Bool, true, false, cond, eqb, List, [], ◌∷◌, ◌++◌, Ok, Err, count_by, ap, ◌∙◌, subst, ⊎_elim, add-one, arith}
+use Rattle.std.proofs.lemmas.List.FromFn.{map-range_with_len_more}
+use Rattle.std.proofs.lemmas.List.Sums.{sum_by_push}
+use Rattle.std.proofs.lemmas.Bool.Decides.{eqb_tells}
+use Rattle.rounds.specs.Gates.{Check}
+use Rattle.participants.specs.Rosters.{participant_at, row_fits, rows_fit, copied}
+use Rattle.participants.specs.Participants.{member_count, seat_count, is_fixing, is_seat}
+use Rattle.rounds.specs.Gates.{then_ok}
+use Rattle.rounds.specs.declared.faults.SessionFault.{SessionFault}
+use Rattle.participants.specs.declared.rows.Listed.{Listed}
 
-pub rows-more : (ls : List Listed) (k : ℕ) → rowsFit ls k ≡ Ok tt → rowFits ls k ≡ Ok tt → rowsFit ls (k + 1) ≡ Ok tt
-rows-more ls k h e = rw add-one (ap (λ (c : Check). thenOk c (rowFits ls k)) h ∙ e)
+pub rows_more : (ls : List Listed) (k : ℕ) → rows_fit ls k ≡ Ok tt → row_fits ls k ≡ Ok tt → rows_fit ls (k + 1) ≡ Ok tt
+rows_more ls k h e = rw add-one (ap (λ (c : Check). then_ok c (row_fits ls k)) h ∙ e)
 
-then-err : (r s : Check) (e : SessionFault) → r ≡ Err e → thenOk r s ≡ Err e
-then-err r s e h = ap (λ (c : Check). thenOk c s) h
+then-err : (r s : Check) (e : SessionFault) → r ≡ Err e → then_ok r s ≡ Err e
+then-err r s e h = ap (λ (c : Check). then_ok c s) h
 
-pub rows-stop : (ls : List Listed) (k n : ℕ) (e : SessionFault) → k < n → rowsFit ls k ≡ Ok tt → rowFits ls k ≡ Err e → rowsFit ls n ≡ Err e
+pub rows-stop : (ls : List Listed) (k n : ℕ) (e : SessionFault) → k < n → rows_fit ls k ≡ Ok tt → row_fits ls k ≡ Err e → rows_fit ls n ≡ Err e
 rows-stop ls k zero e lt h f = absurd (omega arith)
 rows-stop ls k (suc n) e lt h f =
-    ⊎-elim
-    (λ (p : (eqb k n ≡ true) × (k ≡ n)). let P : ℕ → Type 0 = λ j. thenOk (rowsFit ls j) (rowFits ls j) ≡ Err e in subst P (p .1) (ap (λ (c : Check). thenOk c (rowFits ls k)) h ∙ f))
-    (λ (p : (eqb k n ≡ false) × (k ≡ n → ⊥)). let q = p .1 in let l : k < n = omega arith in then-err (rowsFit ls n) _ e (rows-stop ls k n e l h f))
-    (eqb-tells k n)
+    ⊎_elim
+    (λ (p : (eqb k n ≡ true) × (k ≡ n)). let P : ℕ → Type 0 = λ j. then_ok (rows_fit ls j) (row_fits ls j) ≡ Err e in subst P p.1 (ap (λ (c : Check). then_ok c (row_fits ls k)) h ∙ f))
+    (λ (p : (eqb k n ≡ false) × (k ≡ n → ⊥)). let q = p.1 in let l : k < n = omega arith in then-err (rows_fit ls n) _ e (rows-stop ls k n e l h f))
+    (eqb_tells k n)
 
-pub copied-more : (ls : List Listed) (k : ℕ) → copied ls (k + 1) ≡ copied ls k ++ participantAt ls k ∷ []
-copied-more ls k = map-counting-more (participantAt ls) 0 k k (omega arith)
+pub copied_more : (ls : List Listed) (k : ℕ) → copied ls (k + 1) ≡ copied ls k ++ participant_at ls k ∷ []
+copied_more ls k = map-range_with_len_more (participant_at ls) 0 k k (omega arith)
 
-count-push : {X : Type 0} (p : X → Bool) (xs : List X) (x : X) → countBy p (xs ++ x ∷ []) ≡ countBy p xs + cond (p x) 1 0
-count-push p xs x = sumBy-push (λ y. cond (p y) 1 0) xs x
+count-push : {X : Type 0} (p : X → Bool) (xs : List X) (x : X) → count_by p (xs ++ x ∷ []) ≡ count_by p xs + cond (p x) 1 0
+count-push p xs x = sum_by_push (λ y. cond (p y) 1 0) xs x
 
-pub members-more : (ls : List Listed) (k : ℕ) → memberCount (copied ls (k + 1)) ≡ memberCount (copied ls k) + cond (isFixing (participantAt ls k .kind)) 1 0
-members-more ls k = ap memberCount (copied-more ls k) ∙ count-push (λ p. isFixing (p .kind)) (copied ls k) (participantAt ls k)
+pub members-more : (ls : List Listed) (k : ℕ) → member_count (copied ls (k + 1)) ≡ member_count (copied ls k) + cond (is_fixing (participant_at ls k).kind) 1 0
+members-more ls k = ap member_count (copied_more ls k) ∙ count-push (λ p. is_fixing p.kind) (copied ls k) (participant_at ls k)
 
-pub seats-more : (ls : List Listed) (k : ℕ) → seatCount (copied ls (k + 1)) ≡ seatCount (copied ls k) + cond (isSeat (participantAt ls k .kind)) 1 0
-seats-more ls k = ap seatCount (copied-more ls k) ∙ count-push (λ p. isSeat (p .kind)) (copied ls k) (participantAt ls k)
+pub seats-more : (ls : List Listed) (k : ℕ) → seat_count (copied ls (k + 1)) ≡ seat_count (copied ls k) + cond (is_seat (participant_at ls k).kind) 1 0
+seats-more ls k = ap seat_count (copied_more ls k) ∙ count-push (λ p. is_seat p.kind) (copied ls k) (participant_at ls k)

@@ -1,16 +1,12 @@
 -- What every quote keeps to.
-use mathlib.Core.Bool.{Bool, true, _&&_}
-use mathlib.Core.List.{List, [], _∷_}
-use lib.Dec.{leb}
-use Rattle·std.specs.declared.option.Option.{Option}
-use Rattle·std.specs.declared.option.Option.the-variants.{Some, None}
-use Rattle·measures.specs.declared.Ticks.{Ticks}
+use Rattle.std.specs.Prelude.{Bool, true, ◌&&◌, List, [], ◌∷◌, Some, None, Option, nat_le}
+use Rattle.measures.specs.declared.Ticks.{Ticks}
 
 -- a quote that was named is a price
-abbrev pub lawfulQuote : Option Ticks → Bool
-lawfulQuote None = true
-lawfulQuote (Some p) = leb 1 (p .0) && leb (p .0) 10000000
+abbrev pub lawful_quote : Option Ticks → Bool
+lawful_quote None = true
+lawful_quote (Some p) = nat_le 1 p.0 && nat_le p.0 10000000
 
-abbrev pub lawfulQuotes : List (Option Ticks) → Bool
-lawfulQuotes [] = true
-lawfulQuotes (q ∷ qs) = lawfulQuote q && lawfulQuotes qs
+abbrev pub lawful_quotes : List (Option Ticks) → Bool
+lawful_quotes [] = true
+lawful_quotes (q ∷ qs) = lawful_quote q && lawful_quotes qs

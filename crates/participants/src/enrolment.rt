@@ -1,23 +1,16 @@
 //! How a list of participants becomes a table, and what the table answers.
 
-ghost use mathlib.Core.Path.{_≡_};
-ghost use Prim.Native.Nat.{_≤_, _<_};
-ghost use lib.ListN.{length};
-ghost use Rattle·std.specs.Of.Vec.{vec-items, vec-len};
-ghost use Rattle·std.specs.Vec.{made};
-ghost use Rattle·rounds.specs.Memory.{Refuses};
-ghost use Rattle·participants·specs.Participants.{memberCount, seatCount};
-ghost use Rattle·participants·specs.Rosters.{rowsOf, participantOf, participantAt, carried, rowFits, rowsFit, enrolled, countsFit, rosterCheck, kindAt};
+ghost use Rattle.std.specs.Prelude.{◌≡◌, ◌<◌, ◌≤◌, length, IfOk, vec_len, OnOk};
+ghost use Rattle.rounds.specs.Memory.{Refuses};
+ghost use Rattle.participants.specs.Participants.{member_count, seat_count};
+ghost use Rattle.participants.specs.Rosters.{rows_of, participant_of, participant_at, carried, row_fits, rows_fit, enrolled, counts_fit, roster_check, kind_at};
+
 use crate::kinds::Kind;
 use crate::roster::Roster;
-use crate::rows::Listed;
-use crate::rows::Participant;
-use crate::table::MOST_ROWS;
-use crate::table::Participants;
+use crate::rows::{Listed, Participant};
+use crate::table::{MOST_ROWS, Participants};
 use rounds::faults::SessionFault;
-use rounds::faults::SessionFaultFromAlloc;
-use std::alloc::AllocError;
-use std::alloc::Global;
+use std::alloc::{AllocError, Global};
 
 /// The most Fixing Members of a table.
 const MOST_MEMBERS: u32 = 32;
@@ -30,7 +23,7 @@ const NOBODY: Participant = Participant {
 
 /// The participant of a row as it came, if its kind is one and it has the right carrier: a customer a member, a member itself.
 fn participant_of<R: Roster>(roster: &R, row: usize) -> Option<Participant>
-    ensures { λ r. ⌜ r ≡ participantOf (R·Roster .listed (now (roster .entry))) row ⌝ }
+    ensures { result ≡ participant_of (R.Roster.listed roster.now) row }
 {
     let listed = roster.participant(row);
     let Some(kind) = Kind::of(listed.kind) else {
@@ -48,7 +41,7 @@ fn participant_of<R: Roster>(roster: &R, row: usize) -> Option<Participant>
 
 /// Whether a participant has the right carrier.
 fn is_carried<R: Roster>(roster: &R, row: usize, listed: Listed, kind: Kind) -> bool
-    ensures { λ r. ⌜ r ≡ carried (R·Roster .listed (now (roster .entry))) row listed kind ⌝ }
+    ensures { result ≡ carried (R.Roster.listed roster.now) row listed kind }
 {
     match kind {
         Kind::Customer => match Kind::of(roster.participant(listed.carrier as usize).kind) {
@@ -61,7 +54,7 @@ fn is_carried<R: Roster>(roster: &R, row: usize, listed: Listed, kind: Kind) -> 
 
 /// That nothing is wrong with a row.
 fn check_participant<R: Roster>(roster: &R, row: usize) -> Result<(), SessionFault>
-    ensures { λ r. ⌜ r ≡ rowFits (R·Roster .listed (now (roster .entry))) row ⌝ }
+    ensures { result ≡ row_fits (R.Roster.listed roster.now) row }
 {
     match participant_of(roster, row) {
         Some(_) => Ok(()),
@@ -71,7 +64,7 @@ fn check_participant<R: Roster>(roster: &R, row: usize) -> Result<(), SessionFau
 
 /// That nothing is wrong with any row.
 fn check_rows<R: Roster>(roster: &R) -> Result<(), SessionFault>
-    ensures { λ r. ⌜ r ≡ rowsFit (R·Roster .listed (now (roster .entry))) (length (R·Roster .listed (now (roster .entry)))) ⌝ }
+    ensures { result ≡ rows_fit (R.Roster.listed roster.now) (length (R.Roster.listed roster.now)) }
 {
     for row in 0..roster.rows() {
         check_participant(roster, row)?;
@@ -81,15 +74,15 @@ fn check_rows<R: Roster>(roster: &R) -> Result<(), SessionFault>
 
 /// The participant of a row; where something is wrong with it, one that takes no part.
 fn participant_at<R: Roster>(roster: &R, row: usize) -> Participant
-    ensures { λ r. ⌜ r ≡ participantAt (R·Roster .listed (now (roster .entry))) row ⌝ }
+    ensures { result ≡ participant_at (R.Roster.listed roster.now) row }
 {
     participant_of(roster, row).unwrap_or(NOBODY)
 }
 
 /// How many rows are Fixing Members.
 fn count_members<R: Roster>(roster: &R) -> u32
-    requires { ⌜ length (R·Roster .listed (now roster)) ≤ 256 ⌝ }
-    ensures { λ r. ⌜ r ≡ memberCount (enrolled (R·Roster .listed (now (roster .entry)))) ⌝ }
+    requires { length (R.Roster.listed roster.now) ≤ 256 }
+    ensures { result ≡ member_count (enrolled (R.Roster.listed roster.now)) }
 {
     let mut members = 0;
     for row in 0..roster.rows() {
@@ -100,8 +93,8 @@ fn count_members<R: Roster>(roster: &R) -> u32
 
 /// How many rows are quoting seats.
 fn count_seats<R: Roster>(roster: &R) -> u32
-    requires { ⌜ length (R·Roster .listed (now roster)) ≤ 256 ⌝ }
-    ensures { λ r. ⌜ r ≡ seatCount (enrolled (R·Roster .listed (now (roster .entry)))) ⌝ }
+    requires { length (R.Roster.listed roster.now) ≤ 256 }
+    ensures { result ≡ seat_count (enrolled (R.Roster.listed roster.now)) }
 {
     let mut seats = 0;
     for row in 0..roster.rows() {
@@ -112,9 +105,9 @@ fn count_seats<R: Roster>(roster: &R) -> u32
 
 /// That there are 1 to 256 rows, of which 1 to 32 are Fixing Members.
 fn check_counts<R: Roster>(roster: &R) -> Result<(), SessionFault>
-    ensures answer { λ r. ⌜ r ≡ countsFit (R·Roster .listed (now (roster .entry))) ⌝ }
-    ensures rows { λ r. ⌜ made r (λ _. length (R·Roster .listed (now (roster .entry))) ≤ 256) ⌝ }
-    ensures members { λ r. ⌜ made r (λ _. (1 ≤ memberCount (enrolled (R·Roster .listed (now (roster .entry))))) × (memberCount (enrolled (R·Roster .listed (now (roster .entry)))) ≤ 32)) ⌝ }
+    ensures answer { result ≡ counts_fit (R.Roster.listed roster.now) }
+    ensures rows { OnOk result (length (R.Roster.listed roster.now) ≤ 256) }
+    ensures members { OnOk result ((1 ≤ member_count (enrolled (R.Roster.listed roster.now))) × (member_count (enrolled (R.Roster.listed roster.now)) ≤ 32)) }
 {
     if roster.rows() < 1 || roster.rows() > MOST_ROWS {
         return Err(SessionFault::Participants);
@@ -128,8 +121,8 @@ fn check_counts<R: Roster>(roster: &R) -> Result<(), SessionFault>
 
 /// The participants of a roster, in memory of their own.
 fn copy_rows<R: Roster>(heap: Global, roster: &R) -> Result<Vec<Participant>, AllocError>
-    ensures items { λ r. ⌜ made r (λ v. vec-items v ≡ enrolled (R·Roster .listed (now (roster .entry)))) ⌝ }
-    ensures len { λ r. ⌜ made r (λ v. vec-len v ≡ length (R·Roster .listed (now (roster .entry)))) ⌝ }
+    ensures items { IfOk result (λ v. v.items ≡ enrolled (R.Roster.listed roster.now)) }
+    ensures len { IfOk result (λ v. vec_len v ≡ length (R.Roster.listed roster.now)) }
 {
     let mut rows = Vec::with_capacity(heap, roster.rows())?;
     for row in 0..roster.rows() {
@@ -141,8 +134,8 @@ fn copy_rows<R: Roster>(heap: Global, roster: &R) -> Result<Vec<Participant>, Al
 impl Participants {
     /// The table of a roster, once nothing is wrong with it.
     pub fn of<R: Roster>(heap: Global, roster: &R) -> Result<Participants, SessionFault>
-        ensures rows { λ r. ⌜ made r (λ p. rowsOf p ≡ enrolled (R·Roster .listed (now (roster .entry)))) ⌝ }
-        ensures fault { λ r. ⌜ Refuses (rosterCheck (R·Roster .listed (now (roster .entry)))) r ⌝ }
+        ensures rows { IfOk result (λ p. rows_of p ≡ enrolled (R.Roster.listed roster.now)) }
+        ensures fault { Refuses (roster_check (R.Roster.listed roster.now)) result }
     {
         check_rows(roster)?;
         check_counts(roster)?;
@@ -155,40 +148,40 @@ impl Participants {
 
     /// How many rows there are.
     pub fn count(&self) -> usize
-        ensures value { λ r. ⌜ r ≡ length (rowsOf (now (self .entry))) ⌝ }
-        ensures few { λ r. ⌜ r ≤ 256 ⌝ }
+        ensures value { result ≡ length (rows_of self.now) }
+        ensures few { result ≤ 256 }
     {
         self.rows.len()
     }
 
     /// The rows, in order.
     pub fn rows(&self) -> &[Participant]
-        ensures value { λ r. ⌜ now r ≡ rowsOf (now (self .entry)) ⌝ }
-        ensures few { λ r. ⌜ length (now r) ≤ 256 ⌝ }
+        ensures value { result.now ≡ rows_of self.now }
+        ensures few { length result.now ≤ 256 }
     {
         self.rows.as_slice()
     }
 
     /// How many Fixing Members there are.
     pub fn members(&self) -> u32
-        ensures value { λ r. ⌜ r ≡ memberCount (rowsOf (now (self .entry))) ⌝ }
-        ensures some { λ r. ⌜ 1 ≤ r ⌝ }
-        ensures few { λ r. ⌜ r ≤ 32 ⌝ }
+        ensures value { result ≡ member_count (rows_of self.now) }
+        ensures some { 1 ≤ result }
+        ensures few { result ≤ 32 }
     {
         self.members
     }
 
     /// How many quoting seats there are.
     pub fn seats(&self) -> u32
-        ensures { λ r. ⌜ r ≡ seatCount (rowsOf (now (self .entry))) ⌝ }
+        ensures { result ≡ seat_count (rows_of self.now) }
     {
         self.seats
     }
 
     /// The kind of a row, if there is such a row.
     pub fn kind(&self, row: u32) -> Result<Kind, SessionFault>
-        ensures answer { λ r. ⌜ r ≡ kindAt (rowsOf (now (self .entry))) row ⌝ }
-        ensures within { λ r. ⌜ made r (λ _. row < length (rowsOf (now (self .entry)))) ⌝ }
+        ensures answer { result ≡ kind_at (rows_of self.now) row }
+        ensures within { OnOk result (row < length (rows_of self.now)) }
     {
         match self.rows.get(row as usize) {
             Some(participant) => Ok(participant.kind),

@@ -1,7 +1,7 @@
 //! What a participant is, and which kinds quote and share.
 
-ghost use mathlib.Core.Path.{_≡_};
-ghost use Rattle·participants·specs.Participants.{kindOf, isFixing, isSeat};
+ghost use Rattle.std.specs.Prelude.{◌≡◌};
+ghost use Rattle.participants.specs.Participants.{kind_of, is_fixing, is_seat};
 
 /// What a participant is.
 #[derive(Clone, Copy, PartialEq, Eq, Debug)]
@@ -19,7 +19,7 @@ pub enum Kind {
 impl Kind {
     /// The kind that a number names.
     pub fn of(number: u32) -> Option<Kind>
-        ensures { λ r. ⌜ r ≡ kindOf number ⌝ }
+        ensures { result ≡ kind_of number }
     {
         match number {
             1 => Some(Kind::FixingMember),
@@ -32,7 +32,7 @@ impl Kind {
 
     /// Whether it is a Fixing Member.
     pub fn is_fixing(self) -> bool
-        ensures { λ r. ⌜ r ≡ isFixing self ⌝ }
+        ensures { result ≡ is_fixing self }
     {
         match self {
             Kind::FixingMember => true,
@@ -42,7 +42,7 @@ impl Kind {
 
     /// Whether it is a quoting seat.
     pub fn is_seat(self) -> bool
-        ensures { λ r. ⌜ r ≡ isSeat self ⌝ }
+        ensures { result ≡ is_seat self }
     {
         match self {
             Kind::FixingMember | Kind::ReferencePriceMember => true,

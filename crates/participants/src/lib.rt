@@ -1,5 +1,7 @@
 //! Who takes part in a session, and the prices that the quoting seats name.
 
+#![tactic(auto)]
+
 pub mod enrolment;
 pub mod kinds;
 pub mod means;

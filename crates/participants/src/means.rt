@@ -1,19 +1,17 @@
 //! Means to the nearest whole number, and the mean of the quotes.
 
-ghost use mathlib.Core.Path.{_≡_};
-ghost use Prim.Native.Nat.{_+_, _*_, _≤_};
-ghost use lib.ListN.{length};
-ghost use Rattle·std.specs.Slices.{found};
-ghost use Rattle·participants·specs.Means.{nearest, Nearest, noted, named, tallied, Tallies, fromQuotes};
-ghost use Rattle·participants·specs.Named.{pricesOf};
+ghost use Rattle.std.specs.Prelude.{◌≡◌, ◌+◌, ◌*◌, ◌≤◌, length, IfSome};
+ghost use Rattle.participants.specs.Means.{nearest, Nearest, noted, named, tallied, Tallies, from_quotes};
+ghost use Rattle.participants.specs.Named.{prices_of};
+
 use crate::quotes::Quotes;
 use crate::tally::Tally;
 use measures::Ticks;
 
 /// A mean to the nearest whole number, a half up; 0 of nothing.
 pub fn nearest_mean(sum: u64, count: u64) -> u64
-    ensures value { λ r. ⌜ r ≡ nearest sum count ⌝ }
-    ensures nearest { λ r. ⌜ (1 ≤ count → Nearest sum count r) ⌝ }
+    ensures value { result ≡ nearest sum count }
+    ensures nearest { 1 ≤ count → Nearest sum count result }
 {
     if count == 0 {
         return 0;
@@ -30,11 +28,11 @@ pub fn nearest_mean(sum: u64, count: u64) -> u64
 impl Tally {
     /// The tally with one more quote, if one was named.
     fn note(self, quote: Option<Ticks>) -> Tally
-        requires sum { ⌜ self .sum ≤ 256 * 4294967295 ⌝ }
-        requires count { ⌜ self .count ≤ 256 ⌝ }
-        ensures value { λ r. ⌜ r ≡ noted self quote ⌝ }
-        ensures sum { λ r. ⌜ r .sum ≤ self .sum + 4294967295 ⌝ }
-        ensures count { λ r. ⌜ r .count ≤ self .count + 1 ⌝ }
+        requires sum { self.sum ≤ 256 * 4294967295 }
+        requires count { self.count ≤ 256 }
+        ensures value { result ≡ noted self quote }
+        ensures sum { result.sum ≤ self.sum + 4294967295 }
+        ensures count { result.count ≤ self.count + 1 }
     {
         match quote {
             Some(price) => Tally {
@@ -50,9 +48,9 @@ impl Tally {
 
 /// Sum, count, highest and lowest of the quotes that were named.
 fn tally(quotes: &[Option<Ticks>]) -> Tally
-    requires { ⌜ length (now quotes) ≤ 256 ⌝ }
-    ensures value { λ r. ⌜ r ≡ tallied (now (quotes .entry)) ⌝ }
-    ensures count { λ r. ⌜ r .count ≤ 256 ⌝ }
+    requires { length quotes.now ≤ 256 }
+    ensures value { result ≡ tallied quotes.now }
+    ensures count { result.count ≤ 256 }
 {
     let mut tally = Tally {
         sum: 0,
@@ -70,9 +68,9 @@ impl Quotes {
     /// The mean of the quotes without one highest and one lowest, where at least half of `seats` named one, and at least
     /// three.
     pub fn mean(&self, seats: u32) -> Option<Ticks>
-        ensures value { λ r. ⌜ r ≡ fromQuotes seats (pricesOf (now (self .entry))) ⌝ }
-        ensures tallied { λ _. ⌜ Tallies (named (pricesOf (now (self .entry)))) (tallied (pricesOf (now (self .entry)))) ⌝ }
-        ensures within { λ r. ⌜ found r (λ p. (1 ≤ p .0) × (p .0 ≤ 10000000)) ⌝ }
+        ensures value { result ≡ from_quotes seats (prices_of self.now) }
+        ensures tallied { Tallies (named (prices_of self.now)) (tallied (prices_of self.now)) }
+        ensures within { IfSome result (λ p. (1 ≤ p.0) × (p.0 ≤ 10000000)) }
     {
         let tally = tally(self.prices.as_slice());
         if tally.count < 3 || 2 * tally.count < seats {

@@ -1,25 +1,21 @@
 //! What is done to the quotes.
 
-ghost use mathlib.Core.Path.{_≡_};
-ghost use Prim.Native.Nat.{_≤_};
-ghost use lib.ListN.{length, replicate, set};
-ghost use Rattle·std.specs.Vec.{made, refused};
-ghost use Rattle·std.specs.declared.option.Option.the-variants.{Some, None};
-ghost use Rattle·rounds.specs.Gates.{priceFits};
-ghost use Rattle·participants·specs.Named.{pricesOf};
-ghost use Rattle·participants·specs.Rosters.{rowsOf};
+ghost use Rattle.std.specs.Prelude.{◌≡◌, ◌≤◌, length, replicate, IfOk, Some, None, OnErr, OnOk, slice_set};
+ghost use Rattle.rounds.specs.Gates.{price_fits};
+ghost use Rattle.participants.specs.Named.{prices_of};
+ghost use Rattle.participants.specs.Rosters.{rows_of};
+
 use crate::quotes::Quotes;
 use crate::table::Participants;
 use measures::Ticks;
 use rounds::faults::SessionFault;
 use rounds::gates::check_price;
-use std::alloc::AllocError;
-use std::alloc::Global;
+use std::alloc::{AllocError, Global};
 
 impl Quotes {
     /// Room for a quote of each participant.
     pub fn new(heap: Global, participants: &Participants) -> Result<Quotes, AllocError>
-        ensures { λ r. ⌜ made r (λ q. pricesOf q ≡ replicate (length (rowsOf (now (participants .entry)))) None) ⌝ }
+        ensures { IfOk result (λ q. prices_of q ≡ replicate (length (rows_of participants.now)) None) }
     {
         let prices = vec![in heap; None; participants.count()]?;
         Ok(Quotes { prices })
@@ -27,9 +23,9 @@ impl Quotes {
 
     /// Takes a row's price; a later one replaces it. A row past the end has no quote.
     pub fn name(&mut self, row: u32, price: Ticks) -> Result<(), SessionFault>
-        ensures answer { λ r. ⌜ r ≡ priceFits 0 (price .0) ⌝ }
-        ensures named { λ r. ⌜ made r (λ _. pricesOf (now (self .exit)) ≡ set (pricesOf (now (self .entry))) row (Some price)) ⌝ }
-        ensures kept { λ r. ⌜ refused r (λ _. pricesOf (now (self .exit)) ≡ pricesOf (now (self .entry))) ⌝ }
+        ensures answer { result ≡ price_fits 0 price.0 }
+        ensures named { OnOk result (prices_of self.new ≡ slice_set (prices_of self.old) row (Some price)) }
+        ensures kept { OnErr result (prices_of self.new ≡ prices_of self.old) }
     {
         check_price(price, 0)?;
         if (row as usize) < self.prices.len() {

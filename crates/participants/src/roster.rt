@@ -1,10 +1,9 @@
 //! A list of participants as a caller lends it, read by place, so that nothing is copied before it is checked.
 
-ghost use mathlib.Core.Path.{_≡_};
-ghost use mathlib.Core.List.{List};
-ghost use lib.ListN.{length, getD};
-ghost use Rattle·participants·specs.declared.rows.Listed.{Listed};
-ghost use Rattle·participants·specs.Participants.{unlisted};
+ghost use Rattle.std.specs.Prelude.{◌≡◌, List, length, slice_index_or};
+ghost use Rattle.participants.specs.declared.rows.Listed.{Listed};
+ghost use Rattle.participants.specs.Participants.{unlisted};
+
 use crate::rows::Listed;
 
 /// The participants of an opening.
@@ -13,9 +12,9 @@ pub trait Roster {
 
     /// How many there are.
     fn rows(&self) -> usize
-        ensures { λ r. ⌜ r ≡ length (listed (now (self .entry))) ⌝ };
+        ensures { result ≡ length (listed self.now) };
 
     /// The participant of a row; one of no kind past the end.
     fn participant(&self, row: usize) -> Listed
-        ensures { λ r. ⌜ r ≡ getD (listed (now (self .entry))) row unlisted ⌝ };
+        ensures { result ≡ slice_index_or (listed self.now) row unlisted };
 }

@@ -1,8 +1,6 @@
 //! A row of the participant table.
 
 use crate::kinds::Kind;
-use crate::kinds::KindDebug;
-use crate::kinds::KindPartialEq;
 
 /// A participant. A member's carrier is its own row.
 #[derive(Clone, Copy, PartialEq, Eq, Debug)]

@@ -1,9 +1,8 @@
 //! The participant table.
 
-ghost use mathlib.Core.Path.{_≡_};
-ghost use Prim.Native.Nat.{_≤_};
-ghost use Rattle·std.specs.Of.Vec.{vec-items, vec-len};
-ghost use Rattle·participants·specs.Participants.{memberCount, seatCount};
+ghost use Rattle.std.specs.Prelude.{◌≡◌, ◌≤◌, vec_len};
+ghost use Rattle.participants.specs.Participants.{member_count, seat_count};
+
 use crate::rows::Participant;
 
 /// The most rows of a participant table.
@@ -17,9 +16,9 @@ pub struct Participants {
     pub(crate) members: u32,
     /// How many rows are quoting seats.
     pub(crate) seats: u32,
-    ghost few: { vec-len rows ≤ 256 },
-    ghost counted: { members ≡ memberCount (vec-items rows) },
+    ghost few: { vec_len rows ≤ 256 },
+    ghost counted: { members ≡ member_count rows.items },
     ghost some_members: { 1 ≤ members },
     ghost few_members: { members ≤ 32 },
-    ghost seated: { seats ≡ seatCount (vec-items rows) },
+    ghost seated: { seats ≡ seat_count rows.items },
 }

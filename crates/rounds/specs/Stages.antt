@@ -1,33 +1,31 @@
-use Prim.Native.Nat.{ℕ}
-use mathlib.Core.Bool.{Bool}
-use lib.Dec.{eqb}
-use Rattle·rounds·specs.declared.stages.Stage.{Stage}
-use Rattle·rounds·specs.declared.stages.Stage.the-variants.{Quoting, Market, Supplementary, Fixed, Announced, Suspended, Halted}
+use Rattle.std.specs.Prelude.{ℕ, Bool, ◌==◌}
+use Rattle.rounds.specs.declared.stages.Stage.{Stage}
+use Rattle.rounds.specs.declared.stages.Stage.TheVariants.{Quoting, Market, Supplementary, Fixed, Announced, Suspended, Halted}
 
 -- the number of a stage
-abbrev pub numberOf : Stage → ℕ
-numberOf Quoting = 0
-numberOf Market = 1
-numberOf Supplementary = 2
-numberOf Fixed = 3
-numberOf Announced = 4
-numberOf Suspended = 5
-numberOf Halted = 6
+abbrev pub number_of : Stage → ℕ
+number_of Quoting = 0
+number_of Market = 1
+number_of Supplementary = 2
+number_of Fixed = 3
+number_of Announced = 4
+number_of Suspended = 5
+number_of Halted = 6
 
-abbrev pub isQuoting : Stage → Bool
-isQuoting s = eqb (numberOf s) 0
+abbrev pub is_quoting : Stage → Bool
+is_quoting s = number_of s == 0
 
-abbrev pub isMarket : Stage → Bool
-isMarket s = eqb (numberOf s) 1
+abbrev pub is_market : Stage → Bool
+is_market s = number_of s == 1
 
-abbrev pub isSupplementary : Stage → Bool
-isSupplementary s = eqb (numberOf s) 2
+abbrev pub is_supplementary : Stage → Bool
+is_supplementary s = number_of s == 2
 
-abbrev pub isSuspended : Stage → Bool
-isSuspended s = eqb (numberOf s) 5
+abbrev pub is_suspended : Stage → Bool
+is_suspended s = number_of s == 5
 
-abbrev pub isHalted : Stage → Bool
-isHalted s = eqb (numberOf s) 6
+abbrev pub is_halted : Stage → Bool
+is_halted s = number_of s == 6
 
-abbrev pub isFixed : Stage → Bool
-isFixed s = eqb (numberOf s) 3
+abbrev pub is_fixed : Stage → Bool
+is_fixed s = number_of s == 3

@@ -1,14 +1,7 @@
 //! What an accepted call answers.
 
 use crate::stages::Stage;
-use crate::stages::StageDebug;
-use crate::stages::StagePartialEq;
-use measures::Lots;
-use measures::LotsDebug;
-use measures::LotsPartialEq;
-use measures::Ticks;
-use measures::TicksDebug;
-use measures::TicksPartialEq;
+use measures::{Lots, Ticks};
 
 /// Of a tender: the number of its line, and the lots that were taken.
 #[derive(Clone, Copy, PartialEq, Eq, Debug)]

@@ -1,11 +1,10 @@
 //! Why the session refuses a call.
 
-ghost use mathlib.Core.Path.{_≡_};
-ghost use Rattle·rounds·specs.Faults.{numberOf};
-ghost use Rattle·rounds·specs.declared.faults.SessionFault.the-variants.{Book, Memory};
+ghost use Rattle.std.specs.Prelude.{◌≡◌};
+ghost use Rattle.rounds.specs.Faults.{number_of};
+ghost use Rattle.rounds.specs.declared.faults.SessionFault.TheVariants.{Book, Memory};
+
 use books::faults::BookFault;
-use books::faults::BookFaultDebug;
-use books::faults::BookFaultPartialEq;
 use std::alloc::AllocError;
 
 /// A refusal, with what is needed to find its place: which price, which row.
@@ -57,16 +56,16 @@ pub enum SessionFault {
     LastRound,
 }
 
-pub impl From<BookFault> for SessionFault as SessionFaultFromBook {
-    ghost converts = { λ f r. r ≡ Book f };
+impl From<BookFault> for SessionFault {
+    ghost from_gives = { λ f r. r ≡ Book f };
 
     fn from(refusal: BookFault) -> SessionFault {
         SessionFault::Book(refusal)
     }
 }
 
-pub impl From<AllocError> for SessionFault as SessionFaultFromAlloc {
-    ghost converts = { λ _ r. r ≡ Memory };
+impl From<AllocError> for SessionFault {
+    ghost from_gives = { λ _ r. r ≡ Memory };
 
     fn from(_: AllocError) -> SessionFault {
         Self::Memory
@@ -76,7 +75,7 @@ pub impl From<AllocError> for SessionFault as SessionFaultFromAlloc {
 impl SessionFault {
     /// The number of the refusal.
     pub fn number(self) -> u32
-        ensures { λ r. ⌜ r ≡ numberOf self ⌝ }
+        ensures { result ≡ number_of self }
     {
         match self {
             SessionFault::Time => 2,

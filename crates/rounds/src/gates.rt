@@ -1,14 +1,11 @@
 //! The checks that several calls share, each with the refusal it gives.
 
-ghost use mathlib.Core.Bool.{true};
-ghost use mathlib.Core.Path.{_≡_};
-ghost use Prim.Native.Nat.{_≤_, _<_};
-ghost use Rattle·std.specs.Vec.{made};
-ghost use Rattle·rounds·specs.Gates.{timeFits, admitted, inTime, ended, priceFits, lotsFit};
+ghost use Rattle.std.specs.Prelude.{◌≡◌, ◌<◌, ◌≤◌, true, OnOk};
+ghost use Rattle.rounds.specs.Gates.{time_fits, admitted, in_time, ended, price_fits, lots_fit};
+
 use crate::faults::SessionFault;
 use crate::periods::Period;
-use measures::Lots;
-use measures::Ticks;
+use measures::{Lots, Ticks};
 
 /// The last millisecond of a day.
 const LAST_TIME: u32 = 86_399_999;
@@ -18,8 +15,8 @@ pub const HIGHEST_PRICE: u32 = 10_000_000;
 
 /// That a time is one of the day.
 pub fn check_time(time: u32) -> Result<(), SessionFault>
-    ensures answer { λ r. ⌜ r ≡ timeFits time ⌝ }
-    ensures within { λ r. ⌜ made r (λ _. time ≤ 86399999) ⌝ }
+    ensures answer { result ≡ time_fits time }
+    ensures within { OnOk result (time ≤ 86399999) }
 {
     if time > LAST_TIME {
         Err(SessionFault::Time)
@@ -31,9 +28,9 @@ pub fn check_time(time: u32) -> Result<(), SessionFault>
 impl Period {
     /// That the time is one of the day, that the call belongs to the stage, and that no later call was accepted.
     pub fn admit(&self, belongs: bool, time: u32) -> Result<(), SessionFault>
-        ensures answer { λ r. ⌜ r ≡ admitted belongs (now (self .entry)) time ⌝ }
-        ensures belongs { λ r. ⌜ made r (λ _. belongs ≡ true) ⌝ }
-        ensures hour { λ r. ⌜ made r (λ _. time ≤ 86399999) ⌝ }
+        ensures answer { result ≡ admitted belongs self.now time }
+        ensures belongs { OnOk result (belongs ≡ true) }
+        ensures hour { OnOk result (time ≤ 86399999) }
     {
         check_time(time)?;
         if !belongs {
@@ -48,7 +45,7 @@ impl Period {
 
 /// That a period is not over.
 pub fn check_in_time(ends: u32, time: u32) -> Result<(), SessionFault>
-    ensures { λ r. ⌜ r ≡ inTime ends time ⌝ }
+    ensures { result ≡ in_time ends time }
 {
     if time >= ends {
         Err(SessionFault::Over)
@@ -59,7 +56,7 @@ pub fn check_in_time(ends: u32, time: u32) -> Result<(), SessionFault>
 
 /// That a period is over.
 pub fn check_ended(ends: u32, time: u32) -> Result<(), SessionFault>
-    ensures { λ r. ⌜ r ≡ ended ends time ⌝ }
+    ensures { result ≡ ended ends time }
 {
     if time < ends {
         Err(SessionFault::NotOver)
@@ -70,8 +67,8 @@ pub fn check_ended(ends: u32, time: u32) -> Result<(), SessionFault>
 
 /// That a price is one, the price at this place of its call.
 pub fn check_price(price: Ticks, at: usize) -> Result<(), SessionFault>
-    ensures answer { λ r. ⌜ r ≡ priceFits at (price .0) ⌝ }
-    ensures within { λ r. ⌜ made r (λ _. (1 ≤ price .0) × (price .0 ≤ 10000000)) ⌝ }
+    ensures answer { result ≡ price_fits at price.0 }
+    ensures within { OnOk result ((1 ≤ price.0) × (price.0 ≤ 10000000)) }
 {
     if price.0 < 1 || price.0 > HIGHEST_PRICE {
         Err(SessionFault::Price { at })
@@ -82,8 +79,8 @@ pub fn check_price(price: Ticks, at: usize) -> Result<(), SessionFault>
 
 /// That lots are at least one, and at most the largest tender.
 pub fn check_lots(lots: Lots, largest: Lots) -> Result<(), SessionFault>
-    ensures answer { λ r. ⌜ r ≡ lotsFit (largest .0) (lots .0) ⌝ }
-    ensures within { λ r. ⌜ made r (λ _. (1 ≤ lots .0) × (lots .0 ≤ largest .0)) ⌝ }
+    ensures answer { result ≡ lots_fit largest.0 lots.0 }
+    ensures within { OnOk result ((1 ≤ lots.0) × (lots.0 ≤ largest.0)) }
 {
     if lots.0 < 1 || lots.0 > largest.0 {
         Err(SessionFault::Amount)

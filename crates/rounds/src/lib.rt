@@ -1,6 +1,8 @@
 //! What the rounds of a session are made of: stages, periods, moves of the price, the checks that calls share, and why a
 //! call is refused.
 
+#![tactic(auto)]
+
 pub mod answers;
 pub mod faults;
 pub mod gates;

@@ -2,8 +2,7 @@
 
 use crate::sides::Side;
 use crate::stages::Stage;
-use measures::Lots;
-use measures::Ticks;
+use measures::{Lots, Ticks};
 
 /// A change of the Offered Price, of a tick or more.
 #[derive(Clone, Copy)]

@@ -1,8 +1,8 @@
 //! The two sides of the market, and which of them is struck.
 
-ghost use mathlib.Core.Bool.{cond};
-ghost use mathlib.Core.Path.{_≡_};
-ghost use Rattle·rounds·specs.Sides.{other, hits};
+ghost use Rattle.std.specs.Prelude.{◌≡◌, if◌then◌else◌};
+ghost use Rattle.rounds.specs.Sides.{other, hits};
+
 use measures::Lots;
 
 /// Which way a tender goes.
@@ -15,7 +15,7 @@ pub enum Side {
 impl Side {
     /// The side that stands against this one.
     pub fn other(self) -> Side
-        ensures { λ r. ⌜ r ≡ other self ⌝ }
+        ensures { result ≡ other self }
     {
         match self {
             Side::Buy => Side::Sell,
@@ -36,7 +36,7 @@ pub enum Struck {
 impl Struck {
     /// Whether a line of a side is struck.
     pub fn hits(self, side: Side) -> bool
-        ensures { λ r. ⌜ r ≡ hits self side ⌝ }
+        ensures { result ≡ hits self side }
     {
         match self {
             Struck::Only(struck) => struck == side,
@@ -46,7 +46,7 @@ impl Struck {
 
     /// What striking leaves of lots on a side.
     pub fn leaves(self, side: Side, lots: Lots) -> Lots
-        ensures { λ r. ⌜ r .0 ≡ cond (hits self side) 0 (lots .0) ⌝ }
+        ensures { result.0 ≡ (if hits self side then 0 else lots.0) }
     {
         if self.hits(side) { Lots(0) } else { lots }
     }

@@ -1,7 +1,7 @@
 //! The stages a session goes through.
 
-ghost use mathlib.Core.Path.{_≡_};
-ghost use Rattle·rounds·specs.Stages.{numberOf};
+ghost use Rattle.std.specs.Prelude.{◌≡◌};
+ghost use Rattle.rounds.specs.Stages.{number_of};
 
 /// Where a session stands, with the number that answers give it.
 #[derive(Clone, Copy, PartialEq, Eq, Debug)]
@@ -25,7 +25,7 @@ pub enum Stage {
 impl Stage {
     /// The number of the stage.
     pub fn number(self) -> u32
-        ensures { λ r. ⌜ r ≡ numberOf self ⌝ }
+        ensures { result ≡ number_of self }
     {
         self as u32
     }

@@ -1,22 +1,18 @@
-use Prim.Native.Nat.{ℕ, _+_, _≤_, _<_}
-use mathlib.Core.List.{List}
-use mathlib.Core.Path.{_≡_, sym, ap, _∙_}
-use lib.ListN.{length, getD, drop}
-use Rattle·std.proofs.shelf.Lists.{drop-more, drop-all}
-use Rattle·std.specs.declared.result.Result.the-variants.{Ok, Err}
-use Rattle·rounds.specs.Gates.{Check, thenOk, priceFits}
-use Rattle·session·specs.Initial.{pricesFit}
-use Rattle·rounds.specs.declared.faults.SessionFault.{SessionFault}
+use Rattle.std.proofs.Common.{◌≡◌, ℕ, ◌+◌, ◌<◌, ◌≤◌, List, length, get_or, drop, Ok, Err, sym, ap, ◌∙◌}
+use Rattle.std.proofs.lemmas.List.{drop_more, drop_all}
+use Rattle.rounds.specs.Gates.{Check, then_ok, price_fits}
+use Rattle.session.specs.Initial.{prices_fit}
+use Rattle.rounds.specs.declared.faults.SessionFault.{SessionFault}
 
 -- one price more
-fit-more : (ps : List ℕ) (i : ℕ) → i < length ps → pricesFit i (drop i ps) ≡ thenOk (priceFits i (getD ps i 0)) (pricesFit (i + 1) (drop (i + 1) ps))
-fit-more ps i h = ap (λ (xs : List ℕ). pricesFit i xs) (drop-more ps i 0 h)
+fit-more : (ps : List ℕ) (i : ℕ) → i < length ps → prices_fit i (drop i ps) ≡ then_ok (price_fits i (get_or ps i 0)) (prices_fit (i + 1) (drop (i + 1) ps))
+fit-more ps i h = ap (λ (xs : List ℕ). prices_fit i xs) (drop_more ps i 0 h)
 
-pub fit-on : (ps : List ℕ) (i p : ℕ) → i < length ps → p ≡ getD ps i 0 → pricesFit 0 ps ≡ pricesFit i (drop i ps) → Ok tt ≡ priceFits i p → pricesFit 0 ps ≡ pricesFit (i + 1) (drop (i + 1) ps)
-fit-on ps i p h e inv ok = inv ∙ (fit-more ps i h ∙ ap (λ (c : Check). thenOk c (pricesFit (i + 1) (drop (i + 1) ps))) (sym (ok ∙ ap (λ x. priceFits i x) e)))
+pub fit_on : (ps : List ℕ) (i p : ℕ) → i < length ps → p ≡ get_or ps i 0 → prices_fit 0 ps ≡ prices_fit i (drop i ps) → Ok tt ≡ price_fits i p → prices_fit 0 ps ≡ prices_fit (i + 1) (drop (i + 1) ps)
+fit_on ps i p h e inv ok = inv ∙ (fit-more ps i h ∙ ap (λ (c : Check). then_ok c (prices_fit (i + 1) (drop (i + 1) ps))) (sym (ok ∙ ap (λ x. price_fits i x) e)))
 
-pub fit-stop : (ps : List ℕ) (i p : ℕ) (f : SessionFault) → i < length ps → p ≡ getD ps i 0 → pricesFit 0 ps ≡ pricesFit i (drop i ps) → Err f ≡ priceFits i p → pricesFit 0 ps ≡ Err f
-fit-stop ps i p f h e inv err = inv ∙ (fit-more ps i h ∙ ap (λ (c : Check). thenOk c (pricesFit (i + 1) (drop (i + 1) ps))) (sym (err ∙ ap (λ x. priceFits i x) e)))
+pub fit-stop : (ps : List ℕ) (i p : ℕ) (f : SessionFault) → i < length ps → p ≡ get_or ps i 0 → prices_fit 0 ps ≡ prices_fit i (drop i ps) → Err f ≡ price_fits i p → prices_fit 0 ps ≡ Err f
+fit-stop ps i p f h e inv err = inv ∙ (fit-more ps i h ∙ ap (λ (c : Check). then_ok c (prices_fit (i + 1) (drop (i + 1) ps))) (sym (err ∙ ap (λ x. price_fits i x) e)))
 
-pub fit-all : (ps : List ℕ) (i : ℕ) → length ps ≤ i → pricesFit 0 ps ≡ pricesFit i (drop i ps) → pricesFit 0 ps ≡ Ok tt
-fit-all ps i h inv = inv ∙ ap (λ (xs : List ℕ). pricesFit i xs) (drop-all i ps h)
+pub fit_all : (ps : List ℕ) (i : ℕ) → length ps ≤ i → prices_fit 0 ps ≡ prices_fit i (drop i ps) → prices_fit 0 ps ≡ Ok tt
+fit_all ps i h inv = inv ∙ ap (λ (xs : List ℕ). prices_fit i xs) (drop_all i ps h)

@@ -1,56 +1,52 @@
 -- The end of a period.
-use Prim.Native.Nat.{ℕ}
-use mathlib.Core.Bool.{cond, _||_}
-use lib.Dec.{leb, ltb, eqb}
-use Rattle·std.specs.declared.option.Option.{Option}
-use Rattle·std.specs.declared.option.Option.the-variants.{Some, None}
-use Rattle·measures.specs.declared.Ticks.{Ticks}
-use Rattle·books.specs.Accounts.{Accounts}
-use Rattle·rounds.specs.Gates.{Check, thenOk, admitted, ended}
-use Rattle·rounds.specs.Moves.{upFor, moveFor, movedPrice, struckBy}
-use Rattle·rounds.specs.Stages.{isMarket, isSupplementary}
-use Rattle·rounds.specs.declared.answers.Standing.{Standing}
-use Rattle·rounds.specs.declared.periods.Move.{Move}
-use Rattle·rounds.specs.declared.stages.Stage.the-variants.{Halted}
-use Rattle·lines.specs.Lines.{imbalance, excess}
-use Rattle·session·specs.Fixing.{fixed}
-use Rattle·session·specs.Periods.{entered, supplemented, nextRound}
-use Rattle·session·specs.State.{State, Outcome, after, withPeriod, turned}
-use Rattle·session·specs.Striking.{strikeInto}
+use Rattle.std.specs.Prelude.{ℕ, cond, ◌||◌, Some, None, Option, ◌==◌, nat_le, nat_lt}
+use Rattle.measures.specs.declared.Ticks.{Ticks}
+use Rattle.books.specs.Accounts.{Accounts}
+use Rattle.rounds.specs.Gates.{Check, then_ok, admitted, ended}
+use Rattle.rounds.specs.Moves.{up_for, move_for, moved_price, struck_by}
+use Rattle.rounds.specs.Stages.{is_market, is_supplementary}
+use Rattle.rounds.specs.declared.answers.Standing.{Standing}
+use Rattle.rounds.specs.declared.periods.Move.{Move}
+use Rattle.rounds.specs.declared.stages.Stage.TheVariants.{Halted}
+use Rattle.lines.specs.Lines.{imbalance, excess}
+use Rattle.session.specs.Fixing.{fixed}
+use Rattle.session.specs.Periods.{entered, supplemented, next_round}
+use Rattle.session.specs.State.{State, Outcome, after, with_period, turned}
+use Rattle.session.specs.Striking.{strike_into}
 
 module _ {P : Type 0} where
-  abbrev pub closeCheck : State P → ℕ → Check
-  closeCheck s time =
-      thenOk (admitted (isMarket (s .period .stage) || isSupplementary (s .period .stage)) (s .period) time)
-      (ended (s .period .ends) time)
+  abbrev pub close_check : State P → ℕ → Check
+  close_check s time =
+      then_ok (admitted (is_market s.period.stage || is_supplementary s.period.stage) s.period time)
+      (ended s.period.ends time)
 
   -- the move for the imbalance that remains, up for a buying excess
-  abbrev pub closeMove : (ℕ → ℕ) → State P → Move
-  closeMove step s = moveFor (step (imbalance (s .lines))) (upFor (excess (s .lines))) (s .period .last)
+  abbrev pub close_move : (ℕ → ℕ) → State P → Move
+  close_move step s = move_for (step (imbalance s.lines)) (up_for (excess s.lines)) s.period.last
 
   -- a market period that ends level fixes the price
-  abbrev pub marketOutcome : (P → ℕ → ℕ → ℕ → ℕ) → (P → ℕ → ℕ → P) → State P → Accounts → ℕ → Outcome P Standing
-  marketOutcome share told s m time =
-      cond (eqb (imbalance (s .lines)) 0)
+  abbrev pub market_outcome : (P → ℕ → ℕ → ℕ → ℕ) → (P → ℕ → ℕ → P) → State P → Accounts → ℕ → Outcome P Standing
+  market_outcome share told s m time =
+      cond (imbalance s.lines == 0)
       (turned (fixed share told s time) m)
-      (turned (withPeriod s (supplemented (s .period) (excess (s .lines)) (imbalance (s .lines)) time)) m)
+      (turned (with_period s (supplemented s.period (excess s.lines) (imbalance s.lines) time)) m)
 
   -- a move strikes the side of the excess and opens the next round; a price out of its bounds, or a round after the last, halts the session
-  abbrev pub moveOutcome : ℕ → State P → Accounts → ℕ → Move → Option Ticks → Outcome P Standing
-  moveOutcome margin s m time by None = turned (withPeriod s (entered (s .period) Halted time)) m
-  moveOutcome margin s m time by (Some price) =
-      cond (ltb (s .period .round) 64)
-      (strikeInto margin s m (struckBy (by .up)) (nextRound (s .period) by price time))
-      (turned (withPeriod s (entered (s .period) Halted time)) m)
+  abbrev pub move_outcome : ℕ → State P → Accounts → ℕ → Move → Option Ticks → Outcome P Standing
+  move_outcome margin s m time by None = turned (with_period s (entered s.period Halted time)) m
+  move_outcome margin s m time by (Some price) =
+      cond (nat_lt s.period.round 64)
+      (strike_into margin s m (struck_by by.up) (next_round s.period by price time))
+      (turned (with_period s (entered s.period Halted time)) m)
 
   -- an imbalance within the threshold fixes the price; any other moves it
-  abbrev pub supplementaryOutcome : ℕ → ℕ → (ℕ → ℕ) → (P → ℕ → ℕ → ℕ → ℕ) → (P → ℕ → ℕ → P) → State P → Accounts → ℕ → Outcome P Standing
-  supplementaryOutcome margin threshold step share told s m time =
-      cond (leb (imbalance (s .lines)) threshold)
+  abbrev pub supplementary_outcome : ℕ → ℕ → (ℕ → ℕ) → (P → ℕ → ℕ → ℕ → ℕ) → (P → ℕ → ℕ → P) → State P → Accounts → ℕ → Outcome P Standing
+  supplementary_outcome margin threshold step share told s m time =
+      cond (nat_le (imbalance s.lines) threshold)
       (turned (fixed share told s time) m)
-      (moveOutcome margin s m time (closeMove step s) (movedPrice (s .period .price .0) (closeMove step s)))
+      (move_outcome margin s m time (close_move step s) (moved_price s.period.price.0 (close_move step s)))
 
-  abbrev pub closeOutcome : ℕ → ℕ → (ℕ → ℕ) → (P → ℕ → ℕ → ℕ → ℕ) → (P → ℕ → ℕ → P) → State P → Accounts → ℕ → Outcome P Standing
-  closeOutcome margin threshold step share told s m time =
-      after (closeCheck s time) s m
-      (cond (isMarket (s .period .stage)) (marketOutcome share told s m time) (supplementaryOutcome margin threshold step share told s m time))
+  abbrev pub close_outcome : ℕ → ℕ → (ℕ → ℕ) → (P → ℕ → ℕ → ℕ → ℕ) → (P → ℕ → ℕ → P) → State P → Accounts → ℕ → Outcome P Standing
+  close_outcome margin threshold step share told s m time =
+      after (close_check s time) s m
+      (cond (is_market s.period.stage) (market_outcome share told s m time) (supplementary_outcome margin threshold step share told s m time))

@@ -1,16 +1,12 @@
 -- The sheet: the benchmark, and what each row bought and sold at it.
-use mathlib.Core.Bool.{cond}
-use mathlib.Core.List.{List}
-use lib.ListN.{length, take}
-use Rattle·std.specs.declared.result.Result.{Result}
-use Rattle·std.specs.declared.result.Result.the-variants.{Ok, Err}
-use Rattle·measures.specs.declared.Ticks.{Ticks}
-use Rattle·rounds.specs.Stages.{isFixed}
-use Rattle·rounds.specs.declared.faults.SessionFault.{SessionFault}
-use Rattle·rounds.specs.declared.faults.SessionFault.the-variants.{WrongStage}
-use Rattle·lines.specs.declared.fills.Fill.{Fill}
-use Rattle·session·specs.State.{State}
-use Rattle·session·specs.declared.sheet.Sheet.{Sheet}
+use Rattle.std.specs.Prelude.{cond, List, length, take, Ok, Err, Result}
+use Rattle.measures.specs.declared.Ticks.{Ticks}
+use Rattle.rounds.specs.Stages.{is_fixed}
+use Rattle.rounds.specs.declared.faults.SessionFault.{SessionFault}
+use Rattle.rounds.specs.declared.faults.SessionFault.TheVariants.{WrongStage}
+use Rattle.lines.specs.declared.fills.Fill.{Fill}
+use Rattle.session.specs.State.{State}
+use Rattle.session.specs.declared.sheet.Sheet.{Sheet}
 
 -- what a sheet says
 pub record Said : Type 0 where
@@ -18,9 +14,9 @@ pub record Said : Type 0 where
   pub fills : List Fill
 
 abbrev pub said : Result Sheet SessionFault → Result Said SessionFault
-said (Ok s) = Ok (record { price = s .price; fills = s .fills .now })
+said (Ok s) = Ok (record { price = s.price; fills = s.fills.now })
 said (Err f) = Err f
 
 -- of a fixed session, the Offered Price and a fill for each row
-abbrev pub sheetOutcome : {P : Type 0} → State P → Result Said SessionFault
-sheetOutcome s = cond (isFixed (s .period .stage)) (Ok (record { price = s .period .price; fills = take (length (s .rows)) (s .fills) })) (Err WrongStage)
+abbrev pub sheet_outcome : {P : Type 0} → State P → Result Said SessionFault
+sheet_outcome s = cond (is_fixed s.period.stage) (Ok (record { price = s.period.price; fills = take (length s.rows) s.fills })) (Err WrongStage)

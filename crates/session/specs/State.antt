@@ -1,24 +1,20 @@
 -- A session as its rules see it, and what a call does to it.
-use Prim.Native.Nat.{ℕ}
-use mathlib.Core.List.{List}
-use Rattle·std.specs.declared.option.Option.{Option}
-use Rattle·std.specs.declared.result.Result.{Result}
-use Rattle·std.specs.declared.result.Result.the-variants.{Ok, Err}
-use Rattle·measures.specs.declared.Ticks.{Ticks}
-use Rattle·books.specs.Accounts.{Accounts}
-use Rattle·books.specs.declared.faults.BookFault.{BookFault}
-use Rattle·rounds.specs.Gates.{Check}
-use Rattle·rounds.specs.declared.answers.Standing.{Standing}
-use Rattle·rounds.specs.declared.faults.SessionFault.{SessionFault}
-use Rattle·rounds.specs.declared.faults.SessionFault.the-variants.{Book}
-use Rattle·rounds.specs.declared.periods.Period.{Period}
-use Rattle·participants.specs.Named.{pricesOf}
-use Rattle·participants.specs.Rosters.{rowsOf}
-use Rattle·participants.specs.declared.rows.Participant.{Participant}
-use Rattle·lines.specs.Entries.{linesOf, limitOf}
-use Rattle·lines.specs.declared.fills.Fill.{Fill}
-use Rattle·lines.specs.declared.line.Line.{Line}
-use Rattle·session·specs.declared.session.Session.{Session}
+use Rattle.std.specs.Prelude.{ℕ, List, Ok, Err, Option, Result}
+use Rattle.measures.specs.declared.Ticks.{Ticks}
+use Rattle.books.specs.Accounts.{Accounts}
+use Rattle.books.specs.declared.faults.BookFault.{BookFault}
+use Rattle.rounds.specs.Gates.{Check}
+use Rattle.rounds.specs.declared.answers.Standing.{Standing}
+use Rattle.rounds.specs.declared.faults.SessionFault.{SessionFault}
+use Rattle.rounds.specs.declared.faults.SessionFault.TheVariants.{Book}
+use Rattle.rounds.specs.declared.periods.Period.{Period}
+use Rattle.participants.specs.Named.{prices_of}
+use Rattle.participants.specs.Rosters.{rows_of}
+use Rattle.participants.specs.declared.rows.Participant.{Participant}
+use Rattle.lines.specs.Entries.{lines_of, limit_of}
+use Rattle.lines.specs.declared.fills.Fill.{Fill}
+use Rattle.lines.specs.declared.line.Line.{Line}
+use Rattle.session.specs.declared.session.Session.{Session}
 
 pub record State (P : Type 0) : Type 0 where
   pub rows : List Participant
@@ -30,7 +26,7 @@ pub record State (P : Type 0) : Type 0 where
   pub policy : P
 
 abbrev pub view : {C P : Type 0} → Session C P → State P
-view s = record { rows = rowsOf (s .participants); quotes = pricesOf (s .quotes); lines = linesOf (s .table); limit = limitOf (s .table); fills = s .fills; period = s .period; policy = s .policy }
+view s = record { rows = rows_of s.participants; quotes = prices_of s.quotes; lines = lines_of s.table; limit = limit_of s.table; fills = s.fills; period = s.period; policy = s.policy }
 
 -- what a call does: its answer, and the session and the accounts afterwards
 pub record Outcome (P T : Type 0) : Type 0 where
@@ -47,27 +43,27 @@ after (Ok u) s m done = done
 after (Err e) s m done = record { answer = Err e; state = s; accounts = m }
 
 -- a refusal of the book is one of the session
-abbrev pub ofBook : Result (Unit {0}) BookFault → Check
-ofBook (Ok u) = Ok u
-ofBook (Err e) = Err (Book e)
+abbrev pub of_book : Result (Unit {0}) BookFault → Check
+of_book (Ok u) = Ok u
+of_book (Err e) = Err (Book e)
 
 -- what an accepted call answers, but for a tender
-abbrev pub standingAt : Period → Standing
-standingAt p = record { stage = p .stage; price = p .price }
+abbrev pub standing_at : Period → Standing
+standing_at p = record { stage = p.stage; price = p.price }
 
 module _ {P : Type 0} where
-  abbrev pub withPeriod : State P → Period → State P
-  withPeriod s p = record { rows = s .rows; quotes = s .quotes; lines = s .lines; limit = s .limit; fills = s .fills; period = p; policy = s .policy }
+  abbrev pub with_period : State P → Period → State P
+  with_period s p = record { rows = s.rows; quotes = s.quotes; lines = s.lines; limit = s.limit; fills = s.fills; period = p; policy = s.policy }
 
-  abbrev pub withLines : State P → List Line → State P
-  withLines s ls = record { rows = s .rows; quotes = s .quotes; lines = ls; limit = s .limit; fills = s .fills; period = s .period; policy = s .policy }
+  abbrev pub with_lines : State P → List Line → State P
+  with_lines s ls = record { rows = s.rows; quotes = s.quotes; lines = ls; limit = s.limit; fills = s.fills; period = s.period; policy = s.policy }
 
-  abbrev pub withQuotes : State P → List (Option Ticks) → State P
-  withQuotes s qs = record { rows = s .rows; quotes = qs; lines = s .lines; limit = s .limit; fills = s .fills; period = s .period; policy = s .policy }
+  abbrev pub with_quotes : State P → List (Option Ticks) → State P
+  with_quotes s qs = record { rows = s.rows; quotes = qs; lines = s.lines; limit = s.limit; fills = s.fills; period = s.period; policy = s.policy }
 
-  abbrev pub withFills : State P → List Fill → P → State P
-  withFills s fs p = record { rows = s .rows; quotes = s .quotes; lines = s .lines; limit = s .limit; fills = fs; period = s .period; policy = p }
+  abbrev pub with_fills : State P → List Fill → P → State P
+  with_fills s fs p = record { rows = s.rows; quotes = s.quotes; lines = s.lines; limit = s.limit; fills = fs; period = s.period; policy = p }
 
   -- a call that leaves the accounts as they are, and answers where the session then stands
   abbrev pub turned : State P → Accounts → Outcome P Standing
-  turned s m = record { answer = Ok (standingAt (s .period)); state = s; accounts = m }
+  turned s m = record { answer = Ok (standing_at s.period); state = s; accounts = m }

@@ -1,84 +1,78 @@
 -- Tenders.
-use Prim.Native.Nat.{ℕ, min}
-use mathlib.Core.Bool.{cond, _||_}
-use mathlib.Core.List.{[], _∷_, _++_}
-use lib.Dec.{leb, eqb}
-use lib.ListN.{length}
-use Rattle·std.specs.declared.result.Result.{Result}
-use Rattle·std.specs.declared.result.Result.the-variants.{Ok, Err}
-use Rattle·measures.specs.Amounts.{amount}
-use Rattle·measures.specs.declared.Lots.{Lots}
-use Rattle·books.specs.Accounts.{Accounts, freezing, frozenAt}
-use Rattle·rounds.specs.Gates.{Check, thenOk, given, admitted, inTime, lotsFit}
-use Rattle·rounds.specs.Sides.{sameSide, other}
-use Rattle·rounds.specs.Stages.{isMarket, isSupplementary}
-use Rattle·rounds.specs.declared.answers.Tendered.{Tendered}
-use Rattle·rounds.specs.declared.faults.SessionFault.{SessionFault}
-use Rattle·rounds.specs.declared.faults.SessionFault.the-variants.{WrongKind, WrongSide, NothingRemains, LinesUsedUp}
-use Rattle·rounds.specs.declared.sides.Side.{Side}
-use Rattle·participants.specs.Participants.{isFixing}
-use Rattle·participants.specs.Rosters.{kindAt}
-use Rattle·participants.specs.declared.kinds.Kind.{Kind}
-use Rattle·lines.specs.Lines.{imbalance}
-use Rattle·lines.specs.declared.line.Line.{Line}
-use Rattle·session·specs.Periods.{clocked}
-use Rattle·session·specs.State.{State, Outcome, after, ofBook, withPeriod, withLines}
+use Rattle.std.specs.Prelude.{ℕ, min, cond, ◌||◌, [], ◌∷◌, ◌++◌, length, Ok, Err, Result, ◌==◌, nat_le}
+use Rattle.measures.specs.Amounts.{amount}
+use Rattle.measures.specs.declared.Lots.{Lots}
+use Rattle.books.specs.Accounts.{Accounts, freezing, frozen_at}
+use Rattle.rounds.specs.Gates.{Check, then_ok, given, admitted, in_time, lots_fit}
+use Rattle.rounds.specs.Sides.{same_side, other}
+use Rattle.rounds.specs.Stages.{is_market, is_supplementary}
+use Rattle.rounds.specs.declared.answers.Tendered.{Tendered}
+use Rattle.rounds.specs.declared.faults.SessionFault.{SessionFault}
+use Rattle.rounds.specs.declared.faults.SessionFault.TheVariants.{WrongKind, WrongSide, NothingRemains, LinesUsedUp}
+use Rattle.rounds.specs.declared.sides.Side.{Side}
+use Rattle.participants.specs.Participants.{is_fixing}
+use Rattle.participants.specs.Rosters.{kind_at}
+use Rattle.participants.specs.declared.kinds.Kind.{Kind}
+use Rattle.lines.specs.Lines.{imbalance}
+use Rattle.lines.specs.declared.line.Line.{Line}
+use Rattle.session.specs.Periods.{clocked}
+use Rattle.session.specs.State.{State, Outcome, after, of_book, with_period, with_lines}
 
 -- only Fixing Members supplement
-abbrev pub fixingMay : Kind → Check
-fixingMay kind = cond (isFixing kind) (Ok tt) (Err WrongKind)
+abbrev pub fixing_may : Kind → Check
+fixing_may kind = cond (is_fixing kind) (Ok tt) (Err WrongKind)
 
 module _ {P : Type 0} where
   -- who tenders, while tenders are taken
   abbrev pub tenderer : State P → ℕ → ℕ → Result Kind SessionFault
   tenderer s time row =
-      thenOk (admitted (isMarket (s .period .stage) || isSupplementary (s .period .stage)) (s .period) time)
-      (thenOk (inTime (s .period .ends) time)
-      (kindAt (s .rows) row))
+      then_ok (admitted (is_market s.period.stage || is_supplementary s.period.stage) s.period time)
+      (then_ok (in_time s.period.ends time)
+      (kind_at s.rows row))
 
   -- a line table is used up when the accepted tenders equal its limit
-  abbrev pub roomFor : State P → ℕ → Result Lots SessionFault
-  roomFor s n = cond (leb (s .limit) (length (s .lines))) (Err LinesUsedUp) (Ok (record { 0 = n }))
+  abbrev pub room_for : State P → ℕ → Result Lots SessionFault
+  room_for s n = cond (nat_le s.limit (length s.lines)) (Err LinesUsedUp) (Ok (record { 0 = n }))
 
   -- in the market period a tender is taken whole
-  abbrev pub marketTaken : ℕ → State P → ℕ → Result Lots SessionFault
-  marketTaken largest s lots = thenOk (lotsFit largest lots) (roomFor s lots)
+  abbrev pub market_taken : ℕ → State P → ℕ → Result Lots SessionFault
+  market_taken largest s lots = then_ok (lots_fit largest lots) (room_for s lots)
 
   -- in the supplementary period it stands against the excess, and is cut to what remains
-  abbrev pub remainsOf : State P → ℕ → Result Lots SessionFault
-  remainsOf s lots = cond (eqb (imbalance (s .lines)) 0) (Err NothingRemains) (roomFor s (min lots (imbalance (s .lines))))
+  abbrev pub remains_of : State P → ℕ → Result Lots SessionFault
+  remains_of s lots = cond (imbalance s.lines == 0) (Err NothingRemains) (room_for s (min lots (imbalance s.lines)))
 
   abbrev pub against : State P → Side → ℕ → Result Lots SessionFault
-  against s side lots = cond (sameSide side (other (s .period .excess .side))) (remainsOf s lots) (Err WrongSide)
+  against s side lots = cond (same_side side (other s.period.excess.side)) (remains_of s lots) (Err WrongSide)
 
-  abbrev pub supplementaryTaken : ℕ → State P → Kind → Side → ℕ → Result Lots SessionFault
-  supplementaryTaken largest s kind side lots =
-      thenOk (fixingMay kind)
-      (thenOk (lotsFit largest lots)
+  abbrev pub supplementary_taken : ℕ → State P → Kind → Side → ℕ → Result Lots SessionFault
+  supplementary_taken largest s kind side lots =
+      then_ok (fixing_may kind)
+      (then_ok (lots_fit largest lots)
       (against s side lots))
 
   -- the lots taken, or the first of the session's own reasons to refuse
-  abbrev pub lotsTaken : ℕ → State P → ℕ → ℕ → Side → ℕ → Result Lots SessionFault
-  lotsTaken largest s time row side lots =
+  abbrev pub lots_taken : ℕ → State P → ℕ → ℕ → Side → ℕ → Result Lots SessionFault
+  lots_taken largest s time row side lots =
       given (tenderer s time row) (λ kind.
-      cond (isMarket (s .period .stage)) (marketTaken largest s lots) (supplementaryTaken largest s kind side lots))
+      cond (is_market s.period.stage) (market_taken largest s lots) (supplementary_taken largest s kind side lots))
 
   -- the line of an accepted tender
-  abbrev pub lineOf : State P → ℕ → Side → ℕ → Line
-  lineOf s row side lots = record { row = row; side = side; lots = record { 0 = lots }; price = s .period .price; round = s .period .round }
+  abbrev pub line_of : State P → ℕ → Side → ℕ → Line
+  line_of s row side lots = record { row = row; side = side; lots = record { 0 = lots }; price = s.period.price; round = s.period.round }
 
   abbrev pub tendered : State P → ℕ → ℕ → Side → ℕ → State P
-  tendered s time row side lots = withPeriod (withLines s (s .lines ++ lineOf s row side lots ∷ [])) (clocked (s .period) time)
+  tendered s time row side lots = with_period (with_lines s (s.lines ++ line_of s row side lots ∷ [])) (clocked s.period time)
 
   -- only the lots taken freeze margin, and the line is numbered by the tenders accepted so far
-  abbrev pub takenOutcome : ℕ → State P → Accounts → ℕ → ℕ → Side → Result Lots SessionFault → Outcome P Tendered
-  takenOutcome margin s m time row side (Err e) = record { answer = Err e; state = s; accounts = m }
-  takenOutcome margin s m time row side (Ok n) =
-      after (ofBook (freezing (m row) (amount margin (n .0) (s .period .price .0)))) s m (record {
-        answer = Ok (record { line = length (s .lines); lots = n });
-        state = tendered s time row side (n .0);
-        accounts = frozenAt m row (amount margin (n .0) (s .period .price .0));
+  abbrev pub taken_outcome : ℕ → State P → Accounts → ℕ → ℕ → Side → Result Lots SessionFault → Outcome P Tendered
+  taken_outcome margin s m time row side (Err e) = record { answer = Err e; state = s; accounts = m }
+  taken_outcome margin s m time row side (Ok n) =
+      after (of_book (freezing (m row) (amount margin n.0 s.period.price.0))) s m (record {
+        answer = Ok (record { line = length s.lines; lots = n });
+        state = tendered s time row side n.0;
+        accounts = frozen_at m row (amount margin n.0 s.period.price.0);
       })
 
-  abbrev pub tenderOutcome : ℕ → ℕ → State P → Accounts → ℕ → ℕ → Side → ℕ → Outcome P Tendered
-  tenderOutcome margin largest s m time row side lots = takenOutcome margin s m time row side (lotsTaken largest s time row side lots)
+  abbrev pub tender_outcome : ℕ → ℕ → State P → Accounts → ℕ → ℕ → Side → ℕ → Outcome P Tendered
+  tender_outcome margin largest s m time row side lots = taken_outcome margin s m time row side (lots_taken largest s time row side lots)

@@ -1,16 +1,13 @@
 //! The beginning of round 1, at the Initial Price.
 
-ghost use mathlib.Core.Path.{_≡_};
-ghost use Prim.Native.Nat.{ℕ, _≤_, _<_};
-ghost use lib.ListN.{length, getD};
-ghost use Rattle·std.specs.Vec.{made, refused};
-ghost use Rattle·books.specs.Accounts.{Accounts};
-ghost use Rattle·participants.specs.Participants.{seatCount};
-ghost use Rattle·session·specs.Beginning.{beginCheck, beginOutcome};
-ghost use Rattle·session·specs.Initial.{initialPrice};
-ghost use Rattle·session·specs.State.{view, came};
-use crate::executed::check_prices;
-use crate::executed::executed_mean;
+ghost use Rattle.std.specs.Prelude.{◌≡◌, ℕ, ◌<◌, ◌≤◌, length, IfOk, OnErr, OnOk, slice_index};
+ghost use Rattle.books.specs.Accounts.{Accounts};
+ghost use Rattle.participants.specs.Participants.{seat_count};
+ghost use Rattle.session.specs.Beginning.{begin_check, begin_outcome};
+ghost use Rattle.session.specs.Initial.{initial_price};
+ghost use Rattle.session.specs.State.{view, came};
+
+use crate::executed::{check_prices, executed_mean};
 use crate::lists::PriceList;
 use crate::session::Session;
 use measures::Ticks;
@@ -19,18 +16,17 @@ use rounds::faults::SessionFault;
 use rounds::gates::check_ended;
 use rounds::periods::Period;
 use rounds::stages::Stage;
-use rounds::stages::StagePartialEq;
 
 /// The most executed prices of a beginning.
 const MOST_PRICES: usize = 10_000;
 
 impl<C, P> Session<C, P> {
     fn check_begin<L: PriceList>(&self, time: u32, executed: &L) -> Result<(), SessionFault>
-        ensures answer { λ r. ⌜ r ≡ beginCheck (view (now (self .entry))) time (L·PriceList .prices (now (executed .entry))) ⌝ }
-        ensures hour { λ r. ⌜ made r (λ _. time ≤ 86399999) ⌝ }
-        ensures few { λ r. ⌜ made r (λ _. length (L·PriceList .prices (now (executed .entry))) ≤ 10000) ⌝ }
-        ensures low { λ r. ⌜ made r (λ _. (k : ℕ) → k < length (L·PriceList .prices (now (executed .entry))) → 1 ≤ getD (L·PriceList .prices (now (executed .entry))) k 0) ⌝ }
-        ensures high { λ r. ⌜ made r (λ _. (k : ℕ) → k < length (L·PriceList .prices (now (executed .entry))) → getD (L·PriceList .prices (now (executed .entry))) k 0 ≤ 10000000) ⌝ }
+        ensures answer { result ≡ begin_check (view self.now) time (L.PriceList.prices executed.now) }
+        ensures hour { OnOk result (time ≤ 86399999) }
+        ensures few { OnOk result (length (L.PriceList.prices executed.now) ≤ 10000) }
+        ensures low { OnOk result ((k : ℕ) → k < length (L.PriceList.prices executed.now) → 1 ≤ slice_index (L.PriceList.prices executed.now) k) }
+        ensures high { OnOk result ((k : ℕ) → k < length (L.PriceList.prices executed.now) → slice_index (L.PriceList.prices executed.now) k ≤ 10000000) }
     {
         if executed.count() > MOST_PRICES {
             return Err(SessionFault::TooManyPrices);
@@ -43,11 +39,11 @@ impl<C, P> Session<C, P> {
 
     /// The Initial Price: from the quotes, else from the executed prices, else the previous benchmark.
     fn initial_price<L: PriceList>(&self, executed: &L) -> Ticks
-        requires few { ⌜ length (L·PriceList .prices (now executed)) ≤ 10000 ⌝ }
-        requires low { ⌜ ((k : ℕ) → k < length (L·PriceList .prices (now executed)) → 1 ≤ getD (L·PriceList .prices (now executed)) k 0) ⌝ }
-        requires high { ⌜ ((k : ℕ) → k < length (L·PriceList .prices (now executed)) → getD (L·PriceList .prices (now executed)) k 0 ≤ 10000000) ⌝ }
-        ensures value { λ r. ⌜ r .0 ≡ initialPrice (seatCount (view (now (self .entry)) .rows)) (view (now (self .entry)) .quotes) (L·PriceList .prices (now (executed .entry))) (now (self .entry) .period .previous .0) ⌝ }
-        ensures within { λ r. ⌜ (1 ≤ r .0) × (r .0 ≤ 10000000) ⌝ }
+        requires few { length (L.PriceList.prices executed.now) ≤ 10000 }
+        requires low { (k : ℕ) → k < length (L.PriceList.prices executed.now) → 1 ≤ slice_index (L.PriceList.prices executed.now) k }
+        requires high { (k : ℕ) → k < length (L.PriceList.prices executed.now) → slice_index (L.PriceList.prices executed.now) k ≤ 10000000 }
+        ensures value { result.0 ≡ initial_price (seat_count (view self.now).rows) (view self.now).quotes (L.PriceList.prices executed.now) self.now.period.previous.0 }
+        ensures within { (1 ≤ result.0) × (result.0 ≤ 10000000) }
     {
         match self.quotes.mean(self.participants.seats()) {
             Some(price) => price,
@@ -58,9 +54,9 @@ impl<C, P> Session<C, P> {
 
     /// Ends quoting and offers the Initial Price, in the market period of round 1. It is a price: 1 to 10,000,000 ticks.
     pub fn begin<L: PriceList>(&mut self, time: u32, executed: &L) -> Result<Standing, SessionFault>
-        ensures outcome { λ r. ⌜ ((m : Accounts) → came r (view (now (self .exit))) m ≡ beginOutcome (view (now (self .entry))) m time (L·PriceList .prices (now (executed .entry)))) ⌝ }
-        ensures kept { λ r. ⌜ refused r (λ _. view (now (self .exit)) ≡ view (now (self .entry))) ⌝ }
-        ensures offered { λ r. ⌜ made r (λ s. (1 ≤ s .price .0) × (s .price .0 ≤ 10000000)) ⌝ }
+        ensures outcome { (m : Accounts) → came result (view self.new) m ≡ begin_outcome (view self.old) m time (L.PriceList.prices executed.now) }
+        ensures kept { OnErr result (view self.new ≡ view self.old) }
+        ensures offered { IfOk result (λ s. (1 ≤ s.price.0) × (s.price.0 ≤ 10000000)) }
     {
         self.check_begin(time, executed)?;
         let price = self.initial_price(executed);

@@ -1,28 +1,22 @@
 //! The end of a period: the price is fixed, supplementary tenders are asked for, the price moves, or the session halts.
 
-ghost use mathlib.Core.Bool.{true};
-ghost use mathlib.Core.Path.{_≡_};
-ghost use Prim.Native.Nat.{_≤_, _<_};
-ghost use Rattle·std.specs.Vec.{made, refused};
-ghost use Rattle·std.specs.declared.result.Result.the-variants.{Ok};
-ghost use Rattle·books.specs.Accounts.{Accounts};
-ghost use Rattle·rounds.specs.Moves.{movedPrice, upFor, Beyond};
-ghost use Rattle·rounds.specs.Stages.{isMarket, isSupplementary};
-ghost use Rattle·lines.specs.Lines.{imbalance, excess};
-ghost use Rattle·session·specs.Closing.{closeCheck, closeMove, marketOutcome, moveOutcome, supplementaryOutcome, closeOutcome};
-ghost use Rattle·session·specs.Periods.{entered};
-ghost use Rattle·session·specs.State.{view, came, withPeriod, standingAt};
+ghost use Rattle.std.specs.Prelude.{◌≡◌, ◌<◌, ◌≤◌, true, IfOk, Ok, OnErr, OnOk};
+ghost use Rattle.books.specs.Accounts.{Accounts};
+ghost use Rattle.rounds.specs.Moves.{moved_price, up_for, Beyond};
+ghost use Rattle.rounds.specs.Stages.{is_market, is_supplementary};
+ghost use Rattle.lines.specs.Lines.{imbalance, excess};
+ghost use Rattle.session.specs.Closing.{close_check, close_move, market_outcome, move_outcome, supplementary_outcome, close_outcome};
+ghost use Rattle.session.specs.Periods.{entered};
+ghost use Rattle.session.specs.State.{view, came, with_period, standing_at};
+
 use crate::session::Session;
 use books::book::MarginBook;
 use contracts::fixing::FixingContract;
 use rounds::answers::Standing;
 use rounds::faults::SessionFault;
 use rounds::gates::check_ended;
-use rounds::periods::Excess;
-use rounds::periods::Move;
-use rounds::periods::Period;
+use rounds::periods::{Excess, Move, Period};
 use rounds::stages::Stage;
-use rounds::stages::StagePartialEq;
 use sharing::policy::SharingPolicy;
 
 /// No round comes after this one.
@@ -30,9 +24,9 @@ pub(crate) const LAST_ROUND: u32 = 64;
 
 impl<C, P> Session<C, P> {
     fn check_close(&self, time: u32) -> Result<(), SessionFault>
-        ensures answer { λ r. ⌜ r ≡ closeCheck (view (now (self .entry))) time ⌝ }
-        ensures hour { λ r. ⌜ made r (λ _. time ≤ 86399999) ⌝ }
-        ensures offered { λ r. ⌜ made r (λ _. 1 ≤ now (self .entry) .period .price .0) ⌝ }
+        ensures answer { result ≡ close_check (view self.now) time }
+        ensures hour { OnOk result (time ≤ 86399999) }
+        ensures offered { OnOk result (1 ≤ self.now.period.price.0) }
     {
         let open = self.period.stage == Stage::Market || self.period.stage == Stage::Supplementary;
         self.period.admit(open, time)?;
@@ -41,10 +35,10 @@ impl<C, P> Session<C, P> {
 
     /// Enters another stage of the same round, at the same price.
     pub(crate) fn turn_to(&mut self, stage: Stage, time: u32) -> Standing
-        requires hour { ⌜ time ≤ 86399999 ⌝ }
-        requires offered { ⌜ 1 ≤ now self .period .price .0 ⌝ }
-        ensures answer { λ r. ⌜ r ≡ standingAt (entered (now (self .entry) .period) stage time) ⌝ }
-        ensures state { λ _. ⌜ view (now (self .exit)) ≡ withPeriod (view (now (self .entry))) (entered (now (self .entry) .period) stage time) ⌝ }
+        requires hour { time ≤ 86399999 }
+        requires offered { 1 ≤ self.old.period.price.0 }
+        ensures answer { result ≡ standing_at (entered self.old.period stage time) }
+        ensures state { view self.new ≡ with_period (view self.old) (entered self.old.period stage time) }
     {
         self.period = Period {
             stage,
@@ -58,17 +52,17 @@ impl<C, P> Session<C, P> {
 impl<C: FixingContract, P: SharingPolicy> Session<C, P> {
     /// The move for the imbalance that remains: of a tick or more where that is above the threshold.
     fn next_move(&self) -> Move
-        ensures value { λ r. ⌜ r ≡ closeMove (C·FixingContract .step) (view (now (self .entry))) ⌝ }
-        ensures some { λ r. ⌜ (C·FixingContract .threshold < imbalance (view (now (self .entry)) .lines) → 1 ≤ r .size .0) ⌝ }
+        ensures value { result ≡ close_move C.FixingContract.step (view self.now) }
+        ensures some { C.FixingContract.threshold < imbalance (view self.now).lines → 1 ≤ result.size.0 }
     {
         let step = C::step_at(self.table.imbalance());
         Move::after(self.period.last, self.table.excess().moves_up(), step)
     }
 
     fn close_market(&mut self, time: u32) -> Standing
-        requires hour { ⌜ time ≤ 86399999 ⌝ }
-        requires offered { ⌜ 1 ≤ now self .period .price .0 ⌝ }
-        ensures { λ r. ⌜ ((m : Accounts) → came (Ok r) (view (now (self .exit))) m ≡ marketOutcome (P·SharingPolicy .share) (P·SharingPolicy .told) (view (now (self .entry))) m time) ⌝ }
+        requires hour { time ≤ 86399999 }
+        requires offered { 1 ≤ self.old.period.price.0 }
+        ensures { (m : Accounts) → came (Ok result) (view self.new) m ≡ market_outcome P.SharingPolicy.share P.SharingPolicy.told (view self.old) m time }
     {
         if self.table.imbalance().0 == 0 {
             return self.fix(time);
@@ -92,12 +86,12 @@ impl<C: FixingContract, P: SharingPolicy> Session<C, P> {
         book: &mut B,
         time: u32,
     ) -> Result<Standing, SessionFault>
-        requires hour { ⌜ time ≤ 86399999 ⌝ }
-        requires offered { ⌜ 1 ≤ now self .period .price .0 ⌝ }
-        requires beyond { ⌜ C·FixingContract .threshold < imbalance (view (now self) .lines) ⌝ }
-        ensures outcome { λ r. ⌜ came r (view (now (self .exit))) (B·MarginBook .means (now (book .exit))) ≡ moveOutcome (C·QuotedContract .margin) (view (now (self .entry))) (B·MarginBook .means (now (book .entry))) time (closeMove (C·FixingContract .step) (view (now (self .entry)))) (movedPrice (now (self .entry) .period .price .0) (closeMove (C·FixingContract .step) (view (now (self .entry))))) ⌝ }
-        ensures kept { λ r. ⌜ refused r (λ _. (view (now (self .exit)) ≡ view (now (self .entry))) × (B·MarginBook .means (now (book .exit)) ≡ B·MarginBook .means (now (book .entry)))) ⌝ }
-        ensures moved { λ r. ⌜ made r (λ s. isMarket (s .stage) ≡ true → Beyond (upFor (excess (view (now (self .entry)) .lines))) (now (self .entry) .period .price .0) (s .price .0)) ⌝ }
+        requires hour { time ≤ 86399999 }
+        requires offered { 1 ≤ self.old.period.price.0 }
+        requires beyond { C.FixingContract.threshold < imbalance (view self.old).lines }
+        ensures outcome { came result (view self.new) (B.MarginBook.means book.new) ≡ move_outcome C.QuotedContract.margin (view self.old) (B.MarginBook.means book.old) time (close_move C.FixingContract.step (view self.old)) (moved_price self.old.period.price.0 (close_move C.FixingContract.step (view self.old))) }
+        ensures kept { OnErr result ((view self.new ≡ view self.old) × (B.MarginBook.means book.new ≡ B.MarginBook.means book.old)) }
+        ensures moved { IfOk result (λ s. is_market s.stage ≡ true → Beyond (up_for (excess (view self.old).lines)) self.old.period.price.0 s.price.0) }
     {
         let by = self.next_move();
         match by.from(self.period.price) {
@@ -122,11 +116,11 @@ impl<C: FixingContract, P: SharingPolicy> Session<C, P> {
         book: &mut B,
         time: u32,
     ) -> Result<Standing, SessionFault>
-        requires hour { ⌜ time ≤ 86399999 ⌝ }
-        requires offered { ⌜ 1 ≤ now self .period .price .0 ⌝ }
-        ensures outcome { λ r. ⌜ came r (view (now (self .exit))) (B·MarginBook .means (now (book .exit))) ≡ supplementaryOutcome (C·QuotedContract .margin) (C·FixingContract .threshold) (C·FixingContract .step) (P·SharingPolicy .share) (P·SharingPolicy .told) (view (now (self .entry))) (B·MarginBook .means (now (book .entry))) time ⌝ }
-        ensures kept { λ r. ⌜ refused r (λ _. (view (now (self .exit)) ≡ view (now (self .entry))) × (B·MarginBook .means (now (book .exit)) ≡ B·MarginBook .means (now (book .entry)))) ⌝ }
-        ensures moved { λ r. ⌜ made r (λ s. isMarket (s .stage) ≡ true → Beyond (upFor (excess (view (now (self .entry)) .lines))) (now (self .entry) .period .price .0) (s .price .0)) ⌝ }
+        requires hour { time ≤ 86399999 }
+        requires offered { 1 ≤ self.old.period.price.0 }
+        ensures outcome { came result (view self.new) (B.MarginBook.means book.new) ≡ supplementary_outcome C.QuotedContract.margin C.FixingContract.threshold C.FixingContract.step P.SharingPolicy.share P.SharingPolicy.told (view self.old) (B.MarginBook.means book.old) time }
+        ensures kept { OnErr result ((view self.new ≡ view self.old) × (B.MarginBook.means book.new ≡ B.MarginBook.means book.old)) }
+        ensures moved { IfOk result (λ s. is_market s.stage ≡ true → Beyond (up_for (excess (view self.old).lines)) self.old.period.price.0 s.price.0) }
     {
         if self.table.imbalance().0 <= C::threshold_lots().0 {
             return Ok(self.fix(time));
@@ -141,9 +135,9 @@ impl<C: FixingContract, P: SharingPolicy> Session<C, P> {
         book: &mut B,
         time: u32,
     ) -> Result<Standing, SessionFault>
-        ensures outcome { λ r. ⌜ came r (view (now (self .exit))) (B·MarginBook .means (now (book .exit))) ≡ closeOutcome (C·QuotedContract .margin) (C·FixingContract .threshold) (C·FixingContract .step) (P·SharingPolicy .share) (P·SharingPolicy .told) (view (now (self .entry))) (B·MarginBook .means (now (book .entry))) time ⌝ }
-        ensures kept { λ r. ⌜ refused r (λ _. (view (now (self .exit)) ≡ view (now (self .entry))) × (B·MarginBook .means (now (book .exit)) ≡ B·MarginBook .means (now (book .entry)))) ⌝ }
-        ensures moved { λ r. ⌜ made r (λ s. isMarket (s .stage) ≡ true → Beyond (upFor (excess (view (now (self .entry)) .lines))) (now (self .entry) .period .price .0) (s .price .0)) ⌝ }
+        ensures outcome { came result (view self.new) (B.MarginBook.means book.new) ≡ close_outcome C.QuotedContract.margin C.FixingContract.threshold C.FixingContract.step P.SharingPolicy.share P.SharingPolicy.told (view self.old) (B.MarginBook.means book.old) time }
+        ensures kept { OnErr result ((view self.new ≡ view self.old) × (B.MarginBook.means book.new ≡ B.MarginBook.means book.old)) }
+        ensures moved { IfOk result (λ s. is_market s.stage ≡ true → Beyond (up_for (excess (view self.old).lines)) self.old.period.price.0 s.price.0) }
     {
         self.check_close(time)?;
         match self.period.stage {

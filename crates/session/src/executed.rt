@@ -1,10 +1,8 @@
 //! The prices executed in the matching contract: checked one by one, and averaged.
 
-ghost use mathlib.Core.Path.{_≡_};
-ghost use Prim.Native.Nat.{ℕ, _≤_, _<_};
-ghost use lib.ListN.{length, getD};
-ghost use Rattle·std.specs.Vec.{made};
-ghost use Rattle·session·specs.Initial.{pricesFit, executedMean};
+ghost use Rattle.std.specs.Prelude.{◌≡◌, ℕ, ◌<◌, ◌≤◌, length, OnOk, slice_index};
+ghost use Rattle.session.specs.Initial.{prices_fit, executed_mean};
+
 use crate::lists::PriceList;
 use measures::Ticks;
 use participants::means::nearest_mean;
@@ -13,9 +11,9 @@ use rounds::gates::check_price;
 
 /// That each executed price is one.
 pub(crate) fn check_prices<L: PriceList>(executed: &L) -> Result<(), SessionFault>
-    ensures answer { λ r. ⌜ r ≡ pricesFit 0 (L·PriceList .prices (now (executed .entry))) ⌝ }
-    ensures low { λ r. ⌜ made r (λ _. (k : ℕ) → k < length (L·PriceList .prices (now (executed .entry))) → 1 ≤ getD (L·PriceList .prices (now (executed .entry))) k 0) ⌝ }
-    ensures high { λ r. ⌜ made r (λ _. (k : ℕ) → k < length (L·PriceList .prices (now (executed .entry))) → getD (L·PriceList .prices (now (executed .entry))) k 0 ≤ 10000000) ⌝ }
+    ensures answer { result ≡ prices_fit 0 (L.PriceList.prices executed.now) }
+    ensures low { OnOk result ((k : ℕ) → k < length (L.PriceList.prices executed.now) → 1 ≤ slice_index (L.PriceList.prices executed.now) k) }
+    ensures high { OnOk result ((k : ℕ) → k < length (L.PriceList.prices executed.now) → slice_index (L.PriceList.prices executed.now) k ≤ 10000000) }
 {
     for place in 0..executed.count() {
         check_price(executed.price(place), place)?;
@@ -25,12 +23,12 @@ pub(crate) fn check_prices<L: PriceList>(executed: &L) -> Result<(), SessionFaul
 
 /// The mean of some executed prices.
 pub(crate) fn executed_mean<L: PriceList>(executed: &L) -> Ticks
-    requires some { ⌜ 1 ≤ length (L·PriceList .prices (now executed)) ⌝ }
-    requires few { ⌜ length (L·PriceList .prices (now executed)) ≤ 10000 ⌝ }
-    requires low { ⌜ ((k : ℕ) → k < length (L·PriceList .prices (now executed)) → 1 ≤ getD (L·PriceList .prices (now executed)) k 0) ⌝ }
-    requires high { ⌜ ((k : ℕ) → k < length (L·PriceList .prices (now executed)) → getD (L·PriceList .prices (now executed)) k 0 ≤ 10000000) ⌝ }
-    ensures value { λ r. ⌜ r .0 ≡ executedMean (L·PriceList .prices (now (executed .entry))) ⌝ }
-    ensures within { λ r. ⌜ (1 ≤ r .0) × (r .0 ≤ 10000000) ⌝ }
+    requires some { 1 ≤ length (L.PriceList.prices executed.now) }
+    requires few { length (L.PriceList.prices executed.now) ≤ 10000 }
+    requires low { (k : ℕ) → k < length (L.PriceList.prices executed.now) → 1 ≤ slice_index (L.PriceList.prices executed.now) k }
+    requires high { (k : ℕ) → k < length (L.PriceList.prices executed.now) → slice_index (L.PriceList.prices executed.now) k ≤ 10000000 }
+    ensures value { result.0 ≡ executed_mean (L.PriceList.prices executed.now) }
+    ensures within { (1 ≤ result.0) × (result.0 ≤ 10000000) }
 {
     let mut sum: u64 = 0;
     for place in 0..executed.count() {

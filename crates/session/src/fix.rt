@@ -1,11 +1,11 @@
 //! The fix: every line is filled whole, and the Fixing Members share the excess.
 
-ghost use mathlib.Core.Path.{_≡_};
-ghost use Prim.Native.Nat.{_≤_};
-ghost use Rattle·rounds.specs.declared.stages.Stage.the-variants.{Fixed};
-ghost use Rattle·session·specs.Fixing.{fixed};
-ghost use Rattle·session·specs.Periods.{entered};
-ghost use Rattle·session·specs.State.{view, standingAt};
+ghost use Rattle.std.specs.Prelude.{◌≡◌, ◌≤◌};
+ghost use Rattle.rounds.specs.declared.stages.Stage.TheVariants.{Fixed};
+ghost use Rattle.session.specs.Fixing.{fixed};
+ghost use Rattle.session.specs.Periods.{entered};
+ghost use Rattle.session.specs.State.{view, standing_at};
+
 use crate::session::Session;
 use rounds::answers::Standing;
 use rounds::periods::Period;
@@ -15,10 +15,10 @@ use sharing::policy::SharingPolicy;
 impl<C, P: SharingPolicy> Session<C, P> {
     /// Fixes the price: keeps what each row bought and sold, and then tells the policy.
     pub(crate) fn fix(&mut self, time: u32) -> Standing
-        requires hour { ⌜ time ≤ 86399999 ⌝ }
-        requires offered { ⌜ 1 ≤ now self .period .price .0 ⌝ }
-        ensures answer { λ r. ⌜ r ≡ standingAt (entered (now (self .entry) .period) Fixed time) ⌝ }
-        ensures state { λ _. ⌜ view (now (self .exit)) ≡ fixed (P·SharingPolicy .share) (P·SharingPolicy .told) (view (now (self .entry))) time ⌝ }
+        requires hour { time ≤ 86399999 }
+        requires offered { 1 ≤ self.old.period.price.0 }
+        ensures answer { result ≡ standing_at (entered self.old.period Fixed time) }
+        ensures state { view self.new ≡ fixed P.SharingPolicy.share P.SharingPolicy.told (view self.old) time }
     {
         self.fills = self.table.fills(&self.participants, &self.policy);
         self.policy

@@ -1,5 +1,7 @@
 //! One session of benchmark price trading: quotes, rounds of tendering, the fix and the fills.
 
+#![tactic(auto)]
+
 mod begin;
 mod close;
 mod executed;

@@ -1,9 +1,7 @@
 //! A list of prices that a caller lends to a session, read by place, so that nothing is copied.
 
-ghost use mathlib.Core.Path.{_≡_};
-ghost use mathlib.Core.List.{List};
-ghost use Prim.Native.Nat.{ℕ};
-ghost use lib.ListN.{length, getD};
+ghost use Rattle.std.specs.Prelude.{◌≡◌, ℕ, List, length, slice_index};
+
 use measures::Ticks;
 
 /// A list of prices.
@@ -12,9 +10,9 @@ pub trait PriceList {
 
     /// How many there are.
     fn count(&self) -> usize
-        ensures { λ r. ⌜ r ≡ length (prices (now (self .entry))) ⌝ };
+        ensures { result ≡ length (prices self.now) };
 
     /// The price at a place, 0 past the end.
     fn price(&self, place: usize) -> Ticks
-        ensures { λ r. ⌜ r .0 ≡ getD (prices (now (self .entry))) place 0 ⌝ };
+        ensures { result.0 ≡ slice_index (prices self.now) place };
 }

@@ -1,34 +1,25 @@
 //! The opening of a session: everything that it will ever need is made here.
 
-ghost use mathlib.Core.List.{[]};
-ghost use mathlib.Core.Path.{_≡_};
-ghost use Prim.Native.Nat.{_≤_};
-ghost use lib.ListN.{length, replicate};
-ghost use Rattle·std.specs.Vec.{made, refused};
-ghost use Rattle·std.specs.declared.option.Option.the-variants.{None};
-ghost use Rattle·rounds.specs.Memory.{Refuses};
-ghost use Rattle·participants.specs.Named.{pricesOf};
-ghost use Rattle·participants.specs.Rosters.{rowsOf, enrolled};
-ghost use Rattle·lines.specs.Entries.{linesOf, limitOf, widthOf};
-ghost use Rattle·session·specs.Opening.{openCheck, opened, inTableOrder, faultOf};
-ghost use Rattle·session·specs.Periods.{quotingEnds};
-ghost use Rattle·session·specs.State.{view};
+ghost use Rattle.std.specs.Prelude.{◌≡◌, ◌≤◌, [], length, replicate, IfOk, IfErr, None, OnOk};
+ghost use Rattle.rounds.specs.Memory.{Refuses};
+ghost use Rattle.participants.specs.Named.{prices_of};
+ghost use Rattle.participants.specs.Rosters.{rows_of, enrolled};
+ghost use Rattle.lines.specs.Entries.{lines_of, limit_of, width_of};
+ghost use Rattle.session.specs.Opening.{open_check, opened, in_table_order, fault_of};
+ghost use Rattle.session.specs.Periods.{quoting_ends};
+ghost use Rattle.session.specs.State.{view};
+
 use crate::session::Session;
 use lines::entries::check_limit;
 use lines::fills::Fill;
 use lines::table::LineTable;
-use measures::Lots;
-use measures::Ticks;
+use measures::{Lots, Ticks};
 use participants::quotes::Quotes;
 use participants::roster::Roster;
-use participants::table::MOST_ROWS;
-use participants::table::Participants;
+use participants::table::{MOST_ROWS, Participants};
 use rounds::faults::SessionFault;
-use rounds::faults::SessionFaultFromAlloc;
-use rounds::gates::check_price;
-use rounds::gates::check_time;
-use rounds::periods::Excess;
-use rounds::periods::Period;
+use rounds::gates::{check_price, check_time};
+use rounds::periods::{Excess, Period};
 use rounds::sides::Side;
 use rounds::stages::Stage;
 use sharing::table_order::TableOrder;
@@ -56,13 +47,13 @@ fn make_tables<R: Roster>(
     roster: &R,
     limit: usize,
 ) -> Result<Tables, SessionFault>
-    ensures fault { λ r. ⌜ Refuses (openCheck (R·Roster .listed (now (roster .entry))) time (previous .0) limit) r ⌝ }
-    ensures figures { λ r. ⌜ made r (λ _. (time ≤ 86399999) × (1 ≤ previous .0) × (previous .0 ≤ 10000000)) ⌝ }
-    ensures rows { λ r. ⌜ made r (λ t. rowsOf (t .participants) ≡ enrolled (R·Roster .listed (now (roster .entry)))) ⌝ }
-    ensures quotes { λ r. ⌜ made r (λ t. pricesOf (t .quotes) ≡ replicate (length (rowsOf (t .participants))) None) ⌝ }
-    ensures lines { λ r. ⌜ made r (λ t. linesOf (t .lines) ≡ []) ⌝ }
-    ensures limit { λ r. ⌜ made r (λ t. limitOf (t .lines) ≡ limit) ⌝ }
-    ensures width { λ r. ⌜ made r (λ t. widthOf (t .lines) ≡ length (rowsOf (t .participants))) ⌝ }
+    ensures fault { Refuses (open_check (R.Roster.listed roster.now) time previous.0 limit) result }
+    ensures figures { OnOk result ((time ≤ 86399999) × (1 ≤ previous.0) × (previous.0 ≤ 10000000)) }
+    ensures rows { IfOk result (λ t. rows_of t.participants ≡ enrolled (R.Roster.listed roster.now)) }
+    ensures quotes { IfOk result (λ t. prices_of t.quotes ≡ replicate (length (rows_of t.participants)) None) }
+    ensures lines { IfOk result (λ t. lines_of t.lines ≡ []) }
+    ensures limit { IfOk result (λ t. limit_of t.lines ≡ limit) }
+    ensures width { IfOk result (λ t. width_of t.lines ≡ length (rows_of t.participants)) }
 {
     check_time(time)?;
     check_price(previous, 0)?;
@@ -79,9 +70,9 @@ fn make_tables<R: Roster>(
 
 /// When quoting is over: 300,000 ms after an opening before noon, 240,000 after a later one.
 fn quoting_ends(time: u32) -> u32
-    requires { ⌜ time ≤ 86399999 ⌝ }
-    ensures value { λ r. ⌜ r ≡ quotingEnds time ⌝ }
-    ensures bound { λ r. ⌜ r ≤ 86700000 ⌝ }
+    requires { time ≤ 86399999 }
+    ensures value { result ≡ quoting_ends time }
+    ensures bound { result ≤ 86700000 }
 {
     time + if time < 43_200_000 { 300_000 } else { 240_000 }
 }
@@ -96,9 +87,9 @@ impl<C, P> Session<C, P> {
         limit: usize,
         policy: P,
     ) -> Result<Session<C, P>, RefusedOpening<P>>
-        ensures opened { λ r. ⌜ made r (λ s. view s ≡ opened (R·Roster .listed (now (roster .entry))) time previous limit policy) ⌝ }
-        ensures fault { λ r. ⌜ Refuses (openCheck (R·Roster .listed (now (roster .entry))) time (previous .0) limit) (faultOf r) ⌝ }
-        ensures policy { λ r. ⌜ refused r (λ e. e .policy ≡ policy) ⌝ }
+        ensures opened { IfOk result (λ s. view s ≡ opened (R.Roster.listed roster.now) time previous limit policy) }
+        ensures fault { Refuses (open_check (R.Roster.listed roster.now) time previous.0 limit) (fault_of result) }
+        ensures policy { IfErr result (λ e. e.policy ≡ policy) }
     {
         match make_tables(heap, time, previous, roster, limit) {
             Err(fault) => Err(RefusedOpening { fault, policy }),
@@ -145,8 +136,8 @@ impl<C> Session<C, TableOrder> {
         roster: &R,
         limit: usize,
     ) -> Result<Session<C, TableOrder>, SessionFault>
-        ensures opened { λ r. ⌜ made r (λ s. view s ≡ opened (R·Roster .listed (now (roster .entry))) time previous limit inTableOrder) ⌝ }
-        ensures fault { λ r. ⌜ Refuses (openCheck (R·Roster .listed (now (roster .entry))) time (previous .0) limit) r ⌝ }
+        ensures opened { IfOk result (λ s. view s ≡ opened (R.Roster.listed roster.now) time previous limit in_table_order) }
+        ensures fault { Refuses (open_check (R.Roster.listed roster.now) time previous.0 limit) result }
     {
         match Session::open(heap, time, previous, roster, limit, TableOrder) {
             Ok(session) => Ok(session),

@@ -1,24 +1,16 @@
 //! The suspension order: a token that a suspension hands out and that only a measure takes back.
 
-ghost use mathlib.Core.Path.{_≡_};
-ghost use Rattle·std.specs.Vec.{refused};
-ghost use Rattle·session·specs.Orders.{withOrder};
+ghost use Rattle.std.specs.Prelude.{◌≡◌, IfErr};
+ghost use Rattle.session.specs.Orders.{with_order};
+
 use crate::session::Session;
 use rounds::answers::Standing;
 use rounds::faults::SessionFault;
 
-/// Out as long as its session is suspended. It cannot be let fall, and it is spent once: `reissue` and `announce` take it.
+/// Out as long as its session is suspended. It cannot be let fall, since it has no `Drop`, and it is spent once: `reissue`
+/// and `announce` take it.
 pub struct SuspensionOrder {
     round: u32,
-}
-
-impl Drop for SuspensionOrder {
-    /// Nobody can drop an order: a measure takes it apart.
-    fn drop(self)
-        requires { ⌜ ⊥ ⌝ }
-    {
-        let SuspensionOrder { round: _ } = self;
-    }
 }
 
 /// A refused measure hands the order back.
@@ -30,7 +22,7 @@ pub struct RefusedMeasure {
 impl SuspensionOrder {
     /// An order for a session that is suspended in a round.
     pub(crate) fn new(round: u32) -> SuspensionOrder
-        ensures { λ r. ⌜ r .round ≡ round ⌝ }
+        ensures { result.round ≡ round }
     {
         SuspensionOrder { round }
     }
@@ -45,8 +37,8 @@ impl SuspensionOrder {
         self,
         answer: Result<Standing, SessionFault>,
     ) -> Result<Standing, RefusedMeasure>
-        ensures answer { λ r. ⌜ withOrder r ≡ answer ⌝ }
-        ensures order { λ r. ⌜ refused r (λ e. e .order ≡ self) ⌝ }
+        ensures answer { with_order result ≡ answer }
+        ensures order { IfErr result (λ e. e.order ≡ self) }
     {
         match answer {
             Ok(standing) => {

@@ -1,17 +1,15 @@
 //! The sheet: what a fix gave each row.
 
-ghost use mathlib.Core.Path.{_≡_};
-ghost use lib.ListN.{length};
-ghost use Rattle·std.specs.Vec.{made};
-ghost use Rattle·lines.specs.Fills.{Level};
-ghost use Rattle·session·specs.Sheets.{said, sheetOutcome};
-ghost use Rattle·session·specs.State.{view};
+ghost use Rattle.std.specs.Prelude.{◌≡◌, length, IfOk};
+ghost use Rattle.lines.specs.Fills.{Level};
+ghost use Rattle.session.specs.Sheets.{said, sheet_outcome};
+ghost use Rattle.session.specs.State.{view};
+
 use crate::session::Session;
 use lines::fills::Fill;
 use measures::Ticks;
 use rounds::faults::SessionFault;
 use rounds::stages::Stage;
-use rounds::stages::StagePartialEq;
 
 /// The benchmark, and what each row bought and sold at it.
 #[derive(Clone, Copy)]
@@ -23,9 +21,9 @@ pub struct Sheet<'a> {
 impl<C, P> Session<C, P> {
     /// The sheet of a fixed session, a fill a row.
     pub fn sheet(&self) -> Result<Sheet<'_>, SessionFault>
-        ensures outcome { λ r. ⌜ said r ≡ sheetOutcome (view (now (self .entry))) ⌝ }
-        ensures rows { λ r. ⌜ made r (λ s. length (now (s .fills)) ≡ length (view (now (self .entry)) .rows)) ⌝ }
-        ensures level { λ r. ⌜ made r (λ s. Level (now (s .fills))) ⌝ }
+        ensures outcome { said result ≡ sheet_outcome (view self.now) }
+        ensures rows { IfOk result (λ s. length s.fills.now ≡ length (view self.now).rows) }
+        ensures level { IfOk result (λ s. Level s.fills.now) }
     {
         if self.period.stage != Stage::Fixed {
             return Err(SessionFault::WrongStage);

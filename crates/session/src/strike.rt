@@ -1,20 +1,16 @@
 //! Striking lines on the way into another period.
 
-ghost use mathlib.Core.Bool.{true, _||_};
-ghost use mathlib.Core.Path.{_≡_};
-ghost use Prim.Native.Nat.{_≤_};
-ghost use lib.Dec.{leb};
-ghost use Rattle·std.specs.Vec.{made, refused};
-ghost use Rattle·rounds.specs.Moves.{ofTicks};
-ghost use Rattle·rounds.specs.Stages.{isQuoting};
-ghost use Rattle·session·specs.State.{view, came, standingAt};
-ghost use Rattle·session·specs.Striking.{strikeInto};
+ghost use Rattle.std.specs.Prelude.{◌≡◌, ◌≤◌, true, ◌||◌, IfOk, OnErr};
+ghost use Rattle.rounds.specs.Moves.{of_ticks};
+ghost use Rattle.rounds.specs.Stages.{is_quoting};
+ghost use Rattle.session.specs.State.{view, came, standing_at};
+ghost use Rattle.session.specs.Striking.{strike_into};
+
 use crate::session::Session;
 use books::book::MarginBook;
 use contracts::quoted::QuotedContract;
 use rounds::answers::Standing;
 use rounds::faults::SessionFault;
-use rounds::faults::SessionFaultFromBook;
 use rounds::periods::Period;
 use rounds::sides::Struck;
 
@@ -26,17 +22,17 @@ impl<C: QuotedContract, P> Session<C, P> {
         which: Struck,
         period: Period,
     ) -> Result<Standing, SessionFault>
-        requires price { ⌜ period .price .0 ≤ 10000000 ⌝ }
-        requires offered { ⌜ 1 ≤ period .price .0 ⌝ }
-        requires known { ⌜ 1 ≤ period .previous .0 ⌝ }
-        requires previous { ⌜ period .previous .0 ≤ 10000000 ⌝ }
-        requires round { ⌜ period .round ≤ 64 ⌝ }
-        requires hour { ⌜ period .clock ≤ 86399999 ⌝ }
-        requires ends { ⌜ period .ends ≤ 86700000 ⌝ }
-        requires moved { ⌜ ofTicks (period .last) ≡ true ⌝ }
-        ensures outcome { λ r. ⌜ came r (view (now (self .exit))) (B·MarginBook .means (now (book .exit))) ≡ strikeInto (C·QuotedContract .margin) (view (now (self .entry))) (B·MarginBook .means (now (book .entry))) which period ⌝ }
-        ensures kept { λ r. ⌜ refused r (λ _. (view (now (self .exit)) ≡ view (now (self .entry))) × (B·MarginBook .means (now (book .exit)) ≡ B·MarginBook .means (now (book .entry)))) ⌝ }
-        ensures standing { λ r. ⌜ made r (λ s. s ≡ standingAt period) ⌝ }
+        requires price { period.price.0 ≤ 10000000 }
+        requires offered { 1 ≤ period.price.0 }
+        requires known { 1 ≤ period.previous.0 }
+        requires previous { period.previous.0 ≤ 10000000 }
+        requires round { period.round ≤ 64 }
+        requires hour { period.clock ≤ 86399999 }
+        requires ends { period.ends ≤ 86700000 }
+        requires moved { of_ticks period.last ≡ true }
+        ensures outcome { came result (view self.new) (B.MarginBook.means book.new) ≡ strike_into C.QuotedContract.margin (view self.old) (B.MarginBook.means book.old) which period }
+        ensures kept { OnErr result ((view self.new ≡ view self.old) × (B.MarginBook.means book.new ≡ B.MarginBook.means book.old)) }
+        ensures standing { IfOk result (λ s. s ≡ standing_at period) }
     {
         self.table.strike::<C, B>(book, which)?;
         self.period = period;

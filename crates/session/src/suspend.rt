@@ -1,16 +1,14 @@
 //! Suspension, and the two measures that end it.
 
-ghost use mathlib.Core.Path.{_≡_};
-ghost use Prim.Native.Nat.{_≤_, _<_};
-ghost use Rattle·std.specs.Vec.{made, refused};
-ghost use Rattle·books.specs.Accounts.{Accounts};
-ghost use Rattle·rounds.specs.Gates.{thenOk};
-ghost use Rattle·session·specs.Measures.{suspendCheck, measureCheck, roundLeft, suspendOutcome, reissueOutcome, announceOutcome};
-ghost use Rattle·session·specs.Orders.{withOrder, withoutOrder};
-ghost use Rattle·session·specs.State.{view, came};
+ghost use Rattle.std.specs.Prelude.{◌≡◌, ◌<◌, ◌≤◌, IfErr, OnErr, OnOk};
+ghost use Rattle.books.specs.Accounts.{Accounts};
+ghost use Rattle.rounds.specs.Gates.{then_ok};
+ghost use Rattle.session.specs.Measures.{suspend_check, measure_check, round_left, suspend_outcome, reissue_outcome, announce_outcome};
+ghost use Rattle.session.specs.Orders.{with_order, without_order};
+ghost use Rattle.session.specs.State.{view, came};
+
 use crate::close::LAST_ROUND;
-use crate::orders::RefusedMeasure;
-use crate::orders::SuspensionOrder;
+use crate::orders::{RefusedMeasure, SuspensionOrder};
 use crate::session::Session;
 use books::book::MarginBook;
 use contracts::quoted::QuotedContract;
@@ -21,13 +19,12 @@ use rounds::gates::check_price;
 use rounds::periods::Period;
 use rounds::sides::Struck;
 use rounds::stages::Stage;
-use rounds::stages::StagePartialEq;
 
 impl<C, P> Session<C, P> {
     fn check_suspend(&self, time: u32) -> Result<(), SessionFault>
-        ensures answer { λ r. ⌜ r ≡ suspendCheck (view (now (self .entry))) time ⌝ }
-        ensures hour { λ r. ⌜ made r (λ _. time ≤ 86399999) ⌝ }
-        ensures offered { λ r. ⌜ made r (λ _. 1 ≤ now (self .entry) .period .price .0) ⌝ }
+        ensures answer { result ≡ suspend_check (view self.now) time }
+        ensures hour { OnOk result (time ≤ 86399999) }
+        ensures offered { OnOk result (1 ≤ self.now.period.price.0) }
     {
         let running = self.period.stage == Stage::Market
             || self.period.stage == Stage::Supplementary
@@ -37,8 +34,8 @@ impl<C, P> Session<C, P> {
 
     /// Suspends the session, and hands out the order that a measure takes back.
     pub fn suspend(&mut self, time: u32) -> Result<(Standing, SuspensionOrder), SessionFault>
-        ensures outcome { λ r. ⌜ ((m : Accounts) → came (withoutOrder r) (view (now (self .exit))) m ≡ suspendOutcome (view (now (self .entry))) m time) ⌝ }
-        ensures kept { λ r. ⌜ refused r (λ _. view (now (self .exit)) ≡ view (now (self .entry))) ⌝ }
+        ensures outcome { (m : Accounts) → came (without_order result) (view self.new) m ≡ suspend_outcome (view self.old) m time }
+        ensures kept { OnErr result (view self.new ≡ view self.old) }
     {
         self.check_suspend(time)?;
         let standing = self.turn_to(Stage::Suspended, time);
@@ -46,8 +43,8 @@ impl<C, P> Session<C, P> {
     }
 
     fn check_measure(&self, time: u32, price: Ticks) -> Result<(), SessionFault>
-        ensures answer { λ r. ⌜ r ≡ measureCheck (view (now (self .entry))) time (price .0) ⌝ }
-        ensures within { λ r. ⌜ made r (λ _. (time ≤ 86399999) × (1 ≤ price .0) × (price .0 ≤ 10000000)) ⌝ }
+        ensures answer { result ≡ measure_check (view self.now) time price.0 }
+        ensures within { OnOk result ((time ≤ 86399999) × (1 ≤ price.0) × (price.0 ≤ 10000000)) }
     {
         self.period
             .admit(self.period.stage == Stage::Suspended, time)?;
@@ -55,8 +52,8 @@ impl<C, P> Session<C, P> {
     }
 
     fn check_reissue(&self, time: u32, price: Ticks) -> Result<(), SessionFault>
-        ensures answer { λ r. ⌜ r ≡ thenOk (measureCheck (view (now (self .entry))) time (price .0)) (roundLeft (view (now (self .entry)))) ⌝ }
-        ensures within { λ r. ⌜ made r (λ _. (time ≤ 86399999) × (1 ≤ price .0) × (price .0 ≤ 10000000) × (now (self .entry) .period .round < 64)) ⌝ }
+        ensures answer { result ≡ then_ok (measure_check (view self.now) time price.0) (round_left (view self.now)) }
+        ensures within { OnOk result ((time ≤ 86399999) × (1 ≤ price.0) × (price.0 ≤ 10000000) × (self.now.period.round < 64)) }
     {
         self.check_measure(time, price)?;
         if self.period.round >= LAST_ROUND {
@@ -73,8 +70,8 @@ impl<C: QuotedContract, P> Session<C, P> {
         time: u32,
         price: Ticks,
     ) -> Result<Standing, SessionFault>
-        ensures outcome { λ r. ⌜ came r (view (now (self .exit))) (B·MarginBook .means (now (book .exit))) ≡ reissueOutcome (C·QuotedContract .margin) (view (now (self .entry))) (B·MarginBook .means (now (book .entry))) time price ⌝ }
-        ensures kept { λ r. ⌜ refused r (λ _. (view (now (self .exit)) ≡ view (now (self .entry))) × (B·MarginBook .means (now (book .exit)) ≡ B·MarginBook .means (now (book .entry)))) ⌝ }
+        ensures outcome { came result (view self.new) (B.MarginBook.means book.new) ≡ reissue_outcome C.QuotedContract.margin (view self.old) (B.MarginBook.means book.old) time price }
+        ensures kept { OnErr result ((view self.new ≡ view self.old) × (B.MarginBook.means book.new ≡ B.MarginBook.means book.old)) }
     {
         self.check_reissue(time, price)?;
         let period = Period {
@@ -95,8 +92,8 @@ impl<C: QuotedContract, P> Session<C, P> {
         time: u32,
         price: Ticks,
     ) -> Result<Standing, SessionFault>
-        ensures outcome { λ r. ⌜ came r (view (now (self .exit))) (B·MarginBook .means (now (book .exit))) ≡ announceOutcome (C·QuotedContract .margin) (view (now (self .entry))) (B·MarginBook .means (now (book .entry))) time price ⌝ }
-        ensures kept { λ r. ⌜ refused r (λ _. (view (now (self .exit)) ≡ view (now (self .entry))) × (B·MarginBook .means (now (book .exit)) ≡ B·MarginBook .means (now (book .entry)))) ⌝ }
+        ensures outcome { came result (view self.new) (B.MarginBook.means book.new) ≡ announce_outcome C.QuotedContract.margin (view self.old) (B.MarginBook.means book.old) time price }
+        ensures kept { OnErr result ((view self.new ≡ view self.old) × (B.MarginBook.means book.new ≡ B.MarginBook.means book.old)) }
     {
         self.check_measure(time, price)?;
         let period = Period {
@@ -118,9 +115,9 @@ impl SuspensionOrder {
         time: u32,
         price: Ticks,
     ) -> Result<Standing, RefusedMeasure>
-        ensures outcome { λ r. ⌜ came (withOrder r) (view (now (session .exit))) (B·MarginBook .means (now (book .exit))) ≡ reissueOutcome (C·QuotedContract .margin) (view (now (session .entry))) (B·MarginBook .means (now (book .entry))) time price ⌝ }
-        ensures kept { λ r. ⌜ refused r (λ _. (view (now (session .exit)) ≡ view (now (session .entry))) × (B·MarginBook .means (now (book .exit)) ≡ B·MarginBook .means (now (book .entry)))) ⌝ }
-        ensures order { λ r. ⌜ refused r (λ e. e .order ≡ self) ⌝ }
+        ensures outcome { came (with_order result) (view session.new) (B.MarginBook.means book.new) ≡ reissue_outcome C.QuotedContract.margin (view session.old) (B.MarginBook.means book.old) time price }
+        ensures kept { OnErr result ((view session.new ≡ view session.old) × (B.MarginBook.means book.new ≡ B.MarginBook.means book.old)) }
+        ensures order { IfErr result (λ e. e.order ≡ self) }
     {
         self.settle(session.reissue(book, time, price))
     }
@@ -133,9 +130,9 @@ impl SuspensionOrder {
         time: u32,
         price: Ticks,
     ) -> Result<Standing, RefusedMeasure>
-        ensures outcome { λ r. ⌜ came (withOrder r) (view (now (session .exit))) (B·MarginBook .means (now (book .exit))) ≡ announceOutcome (C·QuotedContract .margin) (view (now (session .entry))) (B·MarginBook .means (now (book .entry))) time price ⌝ }
-        ensures kept { λ r. ⌜ refused r (λ _. (view (now (session .exit)) ≡ view (now (session .entry))) × (B·MarginBook .means (now (book .exit)) ≡ B·MarginBook .means (now (book .entry)))) ⌝ }
-        ensures order { λ r. ⌜ refused r (λ e. e .order ≡ self) ⌝ }
+        ensures outcome { came (with_order result) (view session.new) (B.MarginBook.means book.new) ≡ announce_outcome C.QuotedContract.margin (view session.old) (B.MarginBook.means book.old) time price }
+        ensures kept { OnErr result ((view session.new ≡ view session.old) × (B.MarginBook.means book.new ≡ B.MarginBook.means book.old)) }
+        ensures order { IfErr result (λ e. e.order ≡ self) }
     {
         self.settle(session.announce(book, time, price))
     }

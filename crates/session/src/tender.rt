@@ -1,14 +1,11 @@
 //! Buying and selling, in the market period and against the excess.
 
-ghost use mathlib.Core.Bool.{false};
-ghost use mathlib.Core.Path.{_≡_};
-ghost use Prim.Native.Nat.{_≤_, _<_};
-ghost use lib.ListN.{length};
-ghost use Rattle·std.specs.Vec.{made, refused};
-ghost use Rattle·rounds.specs.Stages.{isMarket};
-ghost use Rattle·lines.specs.Lines.{imbalance};
-ghost use Rattle·session·specs.State.{view, came};
-ghost use Rattle·session·specs.Tenders.{tenderer, roomFor, marketTaken, against, supplementaryTaken, lotsTaken, tendered, tenderOutcome};
+ghost use Rattle.std.specs.Prelude.{◌≡◌, ◌<◌, ◌≤◌, false, length, IfOk, OnErr, OnOk};
+ghost use Rattle.rounds.specs.Stages.{is_market};
+ghost use Rattle.lines.specs.Lines.{imbalance};
+ghost use Rattle.session.specs.State.{view, came};
+ghost use Rattle.session.specs.Tenders.{tenderer, room_for, market_taken, against, supplementary_taken, lots_taken, tendered, tender_outcome};
+
 use crate::session::Session;
 use books::book::MarginBook;
 use contracts::quoted::QuotedContract;
@@ -18,19 +15,15 @@ use measures::Lots;
 use participants::kinds::Kind;
 use rounds::answers::Tendered;
 use rounds::faults::SessionFault;
-use rounds::faults::SessionFaultFromBook;
-use rounds::gates::check_in_time;
-use rounds::gates::check_lots;
+use rounds::gates::{check_in_time, check_lots};
 use rounds::sides::Side;
-use rounds::sides::SidePartialEq;
 use rounds::stages::Stage;
-use rounds::stages::StagePartialEq;
 
 impl<C: QuotedContract, P> Session<C, P> {
     /// Who tenders, while tenders are taken.
     fn tenderer(&self, time: u32, row: u32) -> Result<Kind, SessionFault>
-        ensures answer { λ r. ⌜ r ≡ tenderer (view (now (self .entry))) time row ⌝ }
-        ensures within { λ r. ⌜ made r (λ _. (time ≤ 86399999) × (row < length (view (now (self .entry)) .rows))) ⌝ }
+        ensures answer { result ≡ tenderer (view self.now) time row }
+        ensures within { OnOk result ((time ≤ 86399999) × (row < length (view self.now).rows)) }
     {
         let open = self.period.stage == Stage::Market || self.period.stage == Stage::Supplementary;
         self.period.admit(open, time)?;
@@ -39,8 +32,8 @@ impl<C: QuotedContract, P> Session<C, P> {
     }
 
     fn room_for(&self, lots: Lots) -> Result<Lots, SessionFault>
-        ensures answer { λ r. ⌜ r ≡ roomFor (view (now (self .entry))) (lots .0) ⌝ }
-        ensures room { λ r. ⌜ made r (λ n. (n .0 ≡ lots .0) × (length (view (now (self .entry)) .lines) < view (now (self .entry)) .limit)) ⌝ }
+        ensures answer { result ≡ room_for (view self.now) lots.0 }
+        ensures room { IfOk result (λ n. (n.0 ≡ lots.0) × (length (view self.now).lines < (view self.now).limit)) }
     {
         if self.table.is_used_up() {
             Err(SessionFault::LinesUsedUp)
@@ -50,9 +43,9 @@ impl<C: QuotedContract, P> Session<C, P> {
     }
 
     fn market_taken(&self, lots: Lots) -> Result<Lots, SessionFault>
-        ensures answer { λ r. ⌜ r ≡ marketTaken (C·QuotedContract .largest) (view (now (self .entry))) (lots .0) ⌝ }
-        ensures room { λ r. ⌜ made r (λ n. (n .0 ≤ 40000) × (length (view (now (self .entry)) .lines) < view (now (self .entry)) .limit)) ⌝ }
-        ensures some { λ r. ⌜ made r (λ n. (1 ≤ n .0) × (n .0 ≤ lots .0)) ⌝ }
+        ensures answer { result ≡ market_taken C.QuotedContract.largest (view self.now) lots.0 }
+        ensures room { IfOk result (λ n. (n.0 ≤ 40000) × (length (view self.now).lines < (view self.now).limit)) }
+        ensures some { IfOk result (λ n. (1 ≤ n.0) × (n.0 ≤ lots.0)) }
     {
         check_lots(lots, C::largest_tender())?;
         self.room_for(lots)
@@ -60,10 +53,10 @@ impl<C: QuotedContract, P> Session<C, P> {
 
     /// What is taken of a supplementary tender: it goes against the excess, and is cut to what remains of it.
     fn against_excess(&self, side: Side, lots: Lots) -> Result<Lots, SessionFault>
-        ensures answer { λ r. ⌜ r ≡ against (view (now (self .entry))) side (lots .0) ⌝ }
-        ensures room { λ r. ⌜ made r (λ _. length (view (now (self .entry)) .lines) < view (now (self .entry)) .limit) ⌝ }
-        ensures some { λ r. ⌜ made r (λ n. (1 ≤ lots .0 → 1 ≤ n .0) × (n .0 ≤ lots .0)) ⌝ }
-        ensures cut { λ r. ⌜ made r (λ n. n .0 ≤ imbalance (view (now (self .entry)) .lines)) ⌝ }
+        ensures answer { result ≡ against (view self.now) side lots.0 }
+        ensures room { OnOk result (length (view self.now).lines < (view self.now).limit) }
+        ensures some { IfOk result (λ n. (1 ≤ lots.0 → 1 ≤ n.0) × (n.0 ≤ lots.0)) }
+        ensures cut { IfOk result (λ n. n.0 ≤ imbalance (view self.now).lines) }
     {
         if side != self.period.excess.side.other() {
             return Err(SessionFault::WrongSide);
@@ -76,10 +69,10 @@ impl<C: QuotedContract, P> Session<C, P> {
     }
 
     fn supplementary_taken(&self, kind: Kind, side: Side, lots: Lots) -> Result<Lots, SessionFault>
-        ensures answer { λ r. ⌜ r ≡ supplementaryTaken (C·QuotedContract .largest) (view (now (self .entry))) kind side (lots .0) ⌝ }
-        ensures room { λ r. ⌜ made r (λ n. (n .0 ≤ 40000) × (length (view (now (self .entry)) .lines) < view (now (self .entry)) .limit)) ⌝ }
-        ensures some { λ r. ⌜ made r (λ n. (1 ≤ n .0) × (n .0 ≤ lots .0)) ⌝ }
-        ensures cut { λ r. ⌜ made r (λ n. n .0 ≤ imbalance (view (now (self .entry)) .lines)) ⌝ }
+        ensures answer { result ≡ supplementary_taken C.QuotedContract.largest (view self.now) kind side lots.0 }
+        ensures room { IfOk result (λ n. (n.0 ≤ 40000) × (length (view self.now).lines < (view self.now).limit)) }
+        ensures some { IfOk result (λ n. (1 ≤ n.0) × (n.0 ≤ lots.0)) }
+        ensures cut { IfOk result (λ n. n.0 ≤ imbalance (view self.now).lines) }
     {
         if !kind.is_fixing() {
             return Err(SessionFault::WrongKind);
@@ -89,11 +82,11 @@ impl<C: QuotedContract, P> Session<C, P> {
     }
 
     fn lots_taken(&self, time: u32, row: u32, side: Side, lots: Lots) -> Result<Lots, SessionFault>
-        ensures answer { λ r. ⌜ r ≡ lotsTaken (C·QuotedContract .largest) (view (now (self .entry))) time row side (lots .0) ⌝ }
-        ensures within { λ r. ⌜ made r (λ _. (time ≤ 86399999) × (row < length (view (now (self .entry)) .rows))) ⌝ }
-        ensures room { λ r. ⌜ made r (λ n. (n .0 ≤ 40000) × (length (view (now (self .entry)) .lines) < view (now (self .entry)) .limit)) ⌝ }
-        ensures some { λ r. ⌜ made r (λ n. (1 ≤ n .0) × (n .0 ≤ lots .0)) ⌝ }
-        ensures cut { λ r. ⌜ made r (λ n. isMarket (view (now (self .entry)) .period .stage) ≡ false → n .0 ≤ imbalance (view (now (self .entry)) .lines)) ⌝ }
+        ensures answer { result ≡ lots_taken C.QuotedContract.largest (view self.now) time row side lots.0 }
+        ensures within { OnOk result ((time ≤ 86399999) × (row < length (view self.now).rows)) }
+        ensures room { IfOk result (λ n. (n.0 ≤ 40000) × (length (view self.now).lines < (view self.now).limit)) }
+        ensures some { IfOk result (λ n. (1 ≤ n.0) × (n.0 ≤ lots.0)) }
+        ensures cut { IfOk result (λ n. is_market (view self.now).period.stage ≡ false → n.0 ≤ imbalance (view self.now).lines) }
     {
         let kind = self.tenderer(time, row)?;
         match self.period.stage {
@@ -104,12 +97,12 @@ impl<C: QuotedContract, P> Session<C, P> {
 
     /// Makes the line of an accepted tender, for which there is room.
     fn enter(&mut self, time: u32, row: u32, side: Side, taken: Lots) -> Tendered
-        requires time { ⌜ time ≤ 86399999 ⌝ }
-        requires lots { ⌜ taken .0 ≤ 40000 ⌝ }
-        requires row { ⌜ row < length (view (now self) .rows) ⌝ }
-        requires room { ⌜ length (view (now self) .lines) < view (now self) .limit ⌝ }
-        ensures answer { λ r. ⌜ r ≡ record { line = length (view (now (self .entry)) .lines); lots = taken } ⌝ }
-        ensures state { λ _. ⌜ view (now (self .exit)) ≡ tendered (view (now (self .entry))) time row side (taken .0) ⌝ }
+        requires time { time ≤ 86399999 }
+        requires lots { taken.0 ≤ 40000 }
+        requires row { row < length (view self.old).rows }
+        requires room { length (view self.old).lines < (view self.old).limit }
+        ensures answer { result ≡ record { line = length (view self.old).lines; lots = taken } }
+        ensures state { view self.new ≡ tendered (view self.old) time row side taken.0 }
     {
         let entered = self.table.enter(Line {
             row,
@@ -133,10 +126,10 @@ impl<C: QuotedContract, P> Session<C, P> {
         side: Side,
         lots: Lots,
     ) -> Result<Tendered, SessionFault>
-        ensures outcome { λ r. ⌜ came r (view (now (self .exit))) (B·MarginBook .means (now (book .exit))) ≡ tenderOutcome (C·QuotedContract .margin) (C·QuotedContract .largest) (view (now (self .entry))) (B·MarginBook .means (now (book .entry))) time row side (lots .0) ⌝ }
-        ensures kept { λ r. ⌜ refused r (λ _. (view (now (self .exit)) ≡ view (now (self .entry))) × (B·MarginBook .means (now (book .exit)) ≡ B·MarginBook .means (now (book .entry)))) ⌝ }
-        ensures some { λ r. ⌜ made r (λ t. (1 ≤ t .lots .0) × (t .lots .0 ≤ lots .0)) ⌝ }
-        ensures cut { λ r. ⌜ made r (λ t. isMarket (view (now (self .entry)) .period .stage) ≡ false → t .lots .0 ≤ imbalance (view (now (self .entry)) .lines)) ⌝ }
+        ensures outcome { came result (view self.new) (B.MarginBook.means book.new) ≡ tender_outcome C.QuotedContract.margin C.QuotedContract.largest (view self.old) (B.MarginBook.means book.old) time row side lots.0 }
+        ensures kept { OnErr result ((view self.new ≡ view self.old) × (B.MarginBook.means book.new ≡ B.MarginBook.means book.old)) }
+        ensures some { IfOk result (λ t. (1 ≤ t.lots.0) × (t.lots.0 ≤ lots.0)) }
+        ensures cut { IfOk result (λ t. is_market (view self.old).period.stage ≡ false → t.lots.0 ≤ imbalance (view self.old).lines) }
     {
         let taken = self.lots_taken(time, row, side, lots)?;
         book.freeze(row, margin_of::<C>(taken, self.period.price))?;

@@ -1,7 +1,10 @@
 //! The policy in which the extra lots go around the table.
 
-ghost use mathlib.Core.Path.{_≡_};
-ghost use Rattle·sharing·specs.Shares.{startOf, turnShare, turnTold};
+ghost use Rattle.std.specs.Prelude.{◌≡◌};
+ghost use Rattle.sharing.specs.Shares.{start_of, turn_share, turn_told, turn_extra};
+ghost use Rattle.sharing.specs.Counts;
+ghost use Rattle.std.proofs.Common.{rules};
+
 use crate::bounds::in_bounds;
 use crate::policy::SharingPolicy;
 use measures::Lots;
@@ -16,16 +19,26 @@ pub struct ByTurn {
 impl ByTurn {
     /// The start, as one of at most 32 places.
     fn place(self) -> u32
-        ensures { λ r. ⌜ r ≡ startOf (self .start) ⌝ }
+        ensures { result ≡ start_of self.start }
     {
         if self.start < 32 { self.start } else { 0 }
     }
 }
 
-pub impl SharingPolicy for ByTurn as ByTurnPolicy {
-    ghost share = { λ t. turnShare (t .start) };
+impl SharingPolicy for ByTurn {
+    ghost share = { λ t. turn_share t.start };
 
-    ghost told = { turnTold };
+    ghost told = { turn_told };
+
+    ghost whole = { λ p n q h. Counts.whole (turn_extra p.start n q) n q h (Counts.turn p.start n q h) };
+
+    ghost level = { λ p n q. Counts.level (turn_extra p.start n q) n q };
+
+    ghost outside = { Prim.search rules };
+
+    ghost beyond = { Prim.search rules };
+
+    ghost unmoved = { Prim.search rules };
 
     fn share_of(&self, members: u32, excess: Lots, place: u32) -> Lots {
         if !in_bounds(members, excess) || place >= members {
@@ -45,7 +58,7 @@ pub impl SharingPolicy for ByTurn as ByTurnPolicy {
 
 /// Five lots by turn among three members, from the last place on: two, one and two.
 pub fn turns_stand() -> u8
-    ensures { λ _. ⌜ (turnShare 2 3 5 0 ≡ 2) × (turnShare 2 3 5 1 ≡ 1) × (turnShare 2 3 5 2 ≡ 2) ⌝ }
+    ensures { (turn_share 2 3 5 0 ≡ 2) × (turn_share 2 3 5 1 ≡ 1) × (turn_share 2 3 5 2 ≡ 2) }
 {
     0
 }

@@ -1,5 +1,7 @@
 //! How the Fixing Members share the excess of a fix.
 
+#![tactic(auto)]
+
 mod bounds;
 pub mod by_turn;
 pub mod policy;

@@ -1,9 +1,8 @@
 //! What every sharing policy is held to.
 
-ghost use mathlib.Core.Path.{_≡_};
-ghost use mathlib.Core.Bool.{true, false};
-ghost use Prim.Native.Nat.{ℕ, _+_, _≤_, _<_};
-ghost use Rattle·sharing·specs.Shares.{inBounds, below};
+ghost use Rattle.std.specs.Prelude.{◌≡◌, ℕ, ◌+◌, ◌<◌, ◌≤◌, true, false};
+ghost use Rattle.sharing.specs.Shares.{in_bounds, below};
+
 use measures::Lots;
 
 /// A sharing policy. What it means is, for a number of Fixing Members and an excess, the lots of each member's place.
@@ -12,21 +11,21 @@ pub trait SharingPolicy {
 
     ghost told: { Self → ℕ → ℕ → Self };
 
-    law whole: { (p : Self) (n q : ℕ) → inBounds n q ≡ true → below n (share p n q) ≡ q };
-
-    law level: { (p : Self) (n q i j : ℕ) → inBounds n q ≡ true → i < n → j < n → share p n q i ≤ share p n q j + 1 };
-
-    law outside: { (p : Self) (n q i : ℕ) → inBounds n q ≡ false → share p n q i ≡ 0 };
-
-    law beyond: { (p : Self) (n q i : ℕ) → n ≤ i → share p n q i ≡ 0 };
-
-    law unmoved: { (p : Self) (n q : ℕ) → inBounds n q ≡ false → told p n q ≡ p };
-
     /// The lots of one place.
     fn share_of(&self, members: u32, excess: Lots, place: u32) -> Lots
-        ensures { λ r. ⌜ r .0 ≡ share (now (self .entry)) members (excess .0) place ⌝ };
+        ensures { result.0 ≡ share self.now members excess.0 place };
 
     /// Tells the policy of a fix.
     fn tell(&mut self, members: u32, excess: Lots)
-        ensures { λ _. ⌜ now (self .exit) ≡ told (now (self .entry)) members (excess .0) ⌝ };
+        ensures { self.new ≡ told self.old members excess.0 };
+
+    ghost whole: { (p : Self) (n q : ℕ) → in_bounds n q ≡ true → below n (share p n q) ≡ q };
+
+    ghost level: { (p : Self) (n q i j : ℕ) → in_bounds n q ≡ true → i < n → j < n → share p n q i ≤ share p n q j + 1 };
+
+    ghost outside: { (p : Self) (n q i : ℕ) → in_bounds n q ≡ false → share p n q i ≡ 0 };
+
+    ghost beyond: { (p : Self) (n q i : ℕ) → n ≤ i → share p n q i ≡ 0 };
+
+    ghost unmoved: { (p : Self) (n q : ℕ) → in_bounds n q ≡ false → told p n q ≡ p };
 }

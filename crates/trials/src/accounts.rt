@@ -1,25 +1,11 @@
 //! Tenders for accounts that the book does not know, and for the last ones that it does.
 
-use crate::expected::holds;
-use crate::expected::is_unknown;
-use crate::expected::refused;
-use crate::expected::taken;
-use crate::setup::BEGUN;
-use crate::setup::CUSTOMER;
-use crate::setup::bank_line;
-use crate::setup::bank_line_book;
-use crate::setup::buy;
-use crate::setup::cash_book;
-use crate::setup::free;
-use crate::setup::gold;
-use crate::setup::held;
-use crate::setup::sell;
+use crate::expected::{holds, is_unknown, refused, taken};
+use crate::setup::{
+    BEGUN, CUSTOMER, bank_line, bank_line_book, buy, cash_book, free, gold, held, sell,
+};
 use crate::tally::Tally;
-use books::bank_line::BankLineMargin;
-use books::cash::CashMargin;
-use contracts::shau::ShauQuoted;
 use std::alloc::Global;
-use std::error::AnyError;
 
 /// The most that an account holds.
 const MOST: u64 = 4_000_000_000_000_000_000;
@@ -79,7 +65,7 @@ fn bank_lines_above_the_most(heap: Global) -> Option<bool> {
 }
 
 /// Plays the trials of this file.
-pub fn play(rt: &LibcRuntime, heap: Global, tally: &mut Tally) -> Result<(), AnyError> {
+pub fn play(rt: &HostRuntime, heap: Global, tally: &mut Tally) -> anyhow::Result<()> {
     tally.note(
         rt,
         "a_row_without_an_account",

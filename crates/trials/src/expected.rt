@@ -1,20 +1,13 @@
 //! Whether an answer is the expected one.
 
 use crate::setup::held;
-use books::balance::BalancePartialEq;
 use books::book::MarginBook;
-use measures::Lots;
-use measures::Ticks;
-use measures::TicksPartialEq;
-use rounds::answers::Standing;
-use rounds::answers::StandingPartialEq;
-use rounds::answers::Tendered;
-use rounds::answers::TenderedPartialEq;
-use rounds::faults::SessionFault;
 use lines::fills::Fill;
-use lines::fills::FillPartialEq;
-use session::session::Session;
+use measures::{Lots, Ticks};
+use rounds::answers::{Standing, Tendered};
+use rounds::faults::SessionFault;
 use rounds::stages::Stage;
+use session::session::Session;
 
 /// Whether a call was refused by this number.
 pub fn refused<T: Drop>(answer: Result<T, SessionFault>, number: u32) -> bool {

@@ -1,44 +1,20 @@
 //! Line tables of other lengths than the console's.
 
-use crate::expected::fill;
-use crate::expected::filled;
-use crate::expected::holds;
-use crate::expected::is_at;
-use crate::expected::refused;
-use crate::expected::stands;
-use crate::expected::taken;
-use crate::setup::BEGUN;
-use crate::setup::CLOSED;
-use crate::setup::CUSTOMER;
-use crate::setup::OPENED;
-use crate::setup::ROSTER;
-use crate::setup::ROUND_OVER;
-use crate::setup::buy;
-use crate::setup::cash_book;
-use crate::setup::free;
-use crate::setup::market;
-use crate::setup::sell;
+use crate::expected::{fill, filled, holds, is_at, refused, stands, taken};
+use crate::setup::{
+    BEGUN, CLOSED, CUSTOMER, OPENED, ROSTER, ROUND_OVER, buy, cash_book, free, market, sell,
+};
 use crate::tally::Tally;
-use books::cash::CashMargin;
 use contracts::shag::Shag;
-use contracts::shag::ShagFixing;
-use contracts::shag::ShagQuoted;
 use contracts::shau::Shau;
-use contracts::shau::ShauFixing;
-use contracts::shau::ShauQuoted;
-use measures::Lots;
-use measures::Ticks;
+use measures::{Lots, Ticks};
 use messages::rows::Rows;
-use messages::rows::RowsListed;
 use rounds::faults::SessionFault;
-use session::session::Session;
 use rounds::stages::Stage;
+use session::session::Session;
 use sharing::by_turn::ByTurn;
-use sharing::by_turn::ByTurnPolicy;
 use sharing::table_order::TableOrder;
-use sharing::table_order::TableOrderPolicy;
 use std::alloc::Global;
-use std::error::AnyError;
 
 /// Opens a session with no policy named.
 fn opened(heap: Global, limit: usize) -> Result<Session<Shau, TableOrder>, SessionFault> {
@@ -135,7 +111,7 @@ fn all_4096_lines(heap: Global) -> Option<bool> {
 }
 
 /// Plays the trials of this file.
-pub fn play(rt: &LibcRuntime, heap: Global, tally: &mut Tally) -> Result<(), AnyError> {
+pub fn play(rt: &HostRuntime, heap: Global, tally: &mut Tally) -> anyhow::Result<()> {
     tally.note(rt, "limits_at_an_opening", limits_at_an_opening(heap))?;
     tally.note(rt, "one_line", one_line(heap))?;
     tally.note(

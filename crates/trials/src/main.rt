@@ -1,6 +1,8 @@
 //! Plays each list of words in the data folder through the engine, and then sessions without words, and compares what is
 //! answered with what should be.
 
+#![tactic(auto)]
+
 mod accounts;
 mod expected;
 mod limits;
@@ -17,28 +19,25 @@ mod suspension;
 mod tally;
 
 use engine::list::answer_list;
-use engine::transcript::TranscriptDisplay;
 use engine::words::words_of;
 use std::alloc::Global;
-use std::error::AnyError;
 use std::fs;
 use tally::Tally;
-use tally::TallyDisplay;
 
 /// Whether a list is answered as its file says.
-fn agrees(rt: &LibcRuntime, heap: Global, name: &str) -> Result<bool, AnyError> {
-    let words = format!(heap, "{name}.words")?;
-    let out = format!(heap, "{name}.out")?;
+fn agrees(rt: &HostRuntime, heap: Global, name: &str) -> anyhow::Result<bool> {
+    let words = format!(in heap; "{name}.words")?;
+    let out = format!(in heap; "{name}.out")?;
     let bytes = fs::read(rt, words.as_str())?;
     let expected = fs::read_to_string(rt, out.as_str())?;
     let words = words_of(heap, bytes.as_slice())?;
     let transcript = answer_list(heap, words.as_slice())?;
-    let text = format!(heap, "{transcript}")?;
+    let text = format!(in heap; "{transcript}")?;
     Ok(text.as_str() == expected.as_str())
 }
 
 /// Plays each list of the data folder.
-fn play_lists(rt: &LibcRuntime, heap: Global) -> Result<Tally, AnyError> {
+fn play_lists(rt: &HostRuntime, heap: Global) -> anyhow::Result<Tally> {
     let names = fs::read_to_string(rt, "cases.txt")?;
     let mut tally = Tally::new();
     for name in names.as_str().lines() {
@@ -49,7 +48,7 @@ fn play_lists(rt: &LibcRuntime, heap: Global) -> Result<Tally, AnyError> {
 }
 
 /// Plays each session without words.
-fn play_sessions(rt: &LibcRuntime, heap: Global) -> Result<Tally, AnyError> {
+fn play_sessions(rt: &HostRuntime, heap: Global) -> anyhow::Result<Tally> {
     let mut tally = Tally::new();
     openings::play(rt, heap, &mut tally)?;
     limits::play(rt, heap, &mut tally)?;
@@ -64,10 +63,10 @@ fn play_sessions(rt: &LibcRuntime, heap: Global) -> Result<Tally, AnyError> {
     Ok(tally)
 }
 
-fn main(rt: LibcRuntime) -> Result<(), AnyError> {
+fn main(rt: HostRuntime) -> anyhow::Result<()> {
     let lists = play_lists(&rt, rt.alloc())?;
     let sessions = play_sessions(&rt, rt.alloc())?;
-    println!(rt, "{lists} lists agree")?;
-    println!(rt, "{sessions} sessions without words agree")?;
+    println!(rt; "{lists} lists agree")?;
+    println!(rt; "{sessions} sessions without words agree")?;
     Ok(())
 }

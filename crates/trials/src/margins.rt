@@ -1,30 +1,13 @@
 //! Tenders at the edge of what an account has free.
 
-use crate::expected::holds;
-use crate::expected::refused;
-use crate::expected::stands;
-use crate::expected::taken;
-use crate::setup::BEGUN;
-use crate::setup::CLOSED;
-use crate::setup::CUSTOMER;
-use crate::setup::bank_line;
-use crate::setup::bank_line_book;
-use crate::setup::buy;
-use crate::setup::cash_book;
-use crate::setup::free;
-use crate::setup::gold;
-use crate::setup::held;
-use crate::setup::sell;
+use crate::expected::{holds, refused, stands, taken};
+use crate::setup::{
+    BEGUN, CLOSED, CUSTOMER, bank_line, bank_line_book, buy, cash_book, free, gold, held, sell,
+};
 use crate::tally::Tally;
-use books::bank_line::BankLineMargin;
 use books::book::MarginBook;
-use books::cash::CashMargin;
-use contracts::shau::ShauFixing;
-use contracts::shau::ShauQuoted;
 use rounds::stages::Stage;
-use sharing::by_turn::ByTurnPolicy;
 use std::alloc::Global;
-use std::error::AnyError;
 
 /// Ten lots of gold at 100 ask 10 × 100 × 60 = 60,000 fen. Account 0 has a fen less, account 1 just that; 7 are frozen in
 /// both. The refused tender leaves no time and no line behind.
@@ -69,7 +52,7 @@ fn a_fen_in_the_supplementary_period(heap: Global) -> Option<bool> {
 }
 
 /// Plays the trials of this file.
-pub fn play(rt: &LibcRuntime, heap: Global, tally: &mut Tally) -> Result<(), AnyError> {
+pub fn play(rt: &HostRuntime, heap: Global, tally: &mut Tally) -> anyhow::Result<()> {
     tally.note(rt, "a_fen_in_a_cash_book", a_fen_in_a_cash_book(heap))?;
     tally.note(rt, "a_fen_on_a_bank_line", a_fen_on_a_bank_line(heap))?;
     tally.note(

@@ -1,33 +1,14 @@
 //! Two sessions over one book: the account of a row is the same in both.
 
-use crate::expected::holds;
-use crate::expected::is_at;
-use crate::expected::refused;
-use crate::expected::stands;
-use crate::expected::taken;
-use crate::setup::BEGUN;
-use crate::setup::CUSTOMER;
-use crate::setup::bank_line;
-use crate::setup::bank_line_book;
-use crate::setup::buy;
-use crate::setup::cash_book;
-use crate::setup::free;
-use crate::setup::gold;
-use crate::setup::sell;
-use crate::setup::silver;
-use crate::suspension::Suspended;
-use crate::suspension::spent;
-use crate::suspension::suspend;
+use crate::expected::{holds, is_at, refused, stands, taken};
+use crate::setup::{
+    BEGUN, CUSTOMER, bank_line, bank_line_book, buy, cash_book, free, gold, sell, silver,
+};
+use crate::suspension::{Suspended, spent, suspend};
 use crate::tally::Tally;
-use books::bank_line::BankLineMargin;
-use books::cash::CashMargin;
-use contracts::shag::ShagQuoted;
-use contracts::shau::ShauQuoted;
-use measures::Lots;
-use measures::Ticks;
+use measures::{Lots, Ticks};
 use rounds::stages::Stage;
 use std::alloc::Global;
-use std::error::AnyError;
 
 /// At 100 a lot of gold asks 6,000 fen, one of silver 15,000. Ten of gold and one of silver use up 75,000; two of gold given
 /// back do not make up for one of silver, three do, and 3 × 6,000 − 15,000 = 3,000 are left.
@@ -78,7 +59,7 @@ fn a_measure_releases_its_own_session_only(heap: Global) -> Option<bool> {
 }
 
 /// Plays the trials of this file.
-pub fn play(rt: &LibcRuntime, heap: Global, tally: &mut Tally) -> Result<(), AnyError> {
+pub fn play(rt: &HostRuntime, heap: Global, tally: &mut Tally) -> anyhow::Result<()> {
     tally.note(
         rt,
         "what_one_freezes_the_other_cannot",

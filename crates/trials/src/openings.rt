@@ -1,26 +1,17 @@
 //! Openings that hand their policy back, and beginnings at executed prices.
 
-use crate::expected::is_at;
-use crate::expected::refused;
-use crate::expected::stands;
-use crate::setup::BEGUN;
-use crate::setup::LIMIT;
-use crate::setup::OPENED;
-use crate::setup::quoting;
+use crate::expected::{is_at, refused, stands};
+use crate::setup::{BEGUN, LIMIT, OPENED, quoting};
 use crate::tally::Tally;
 use contracts::shau::Shau;
 use measures::Ticks;
 use messages::prices::Prices;
-use messages::prices::PricesListed;
-use messages::rows::OpenRow;
-use messages::rows::Rows;
-use messages::rows::RowsListed;
+use messages::rows::{OpenRow, Rows};
+use rounds::stages::Stage;
 use session::open::RefusedOpening;
 use session::session::Session;
-use rounds::stages::Stage;
 use sharing::by_turn::ByTurn;
 use std::alloc::Global;
-use std::error::AnyError;
 
 /// The number by which an opening is refused, if it hands its policy back as it was.
 fn refusal(heap: Global, time: u32, previous: u32, limit: usize, rows: &[OpenRow]) -> Option<u32> {
@@ -65,7 +56,7 @@ fn a_beginning_at_executed_prices(heap: Global) -> Option<bool> {
 }
 
 /// Plays the trials of this file.
-pub fn play(rt: &LibcRuntime, heap: Global, tally: &mut Tally) -> Result<(), AnyError> {
+pub fn play(rt: &HostRuntime, heap: Global, tally: &mut Tally) -> anyhow::Result<()> {
     tally.note(
         rt,
         "a_refused_opening_hands_its_policy_back",

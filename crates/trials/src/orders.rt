@@ -1,36 +1,18 @@
 //! Measures that are refused: the suspension order comes back each time, until one is accepted.
 
-use crate::expected::holds;
-use crate::expected::is_at;
-use crate::expected::refused;
-use crate::expected::taken;
-use crate::setup::BEGUN;
-use crate::setup::CUSTOMER;
-use crate::setup::bank_line;
-use crate::setup::bank_line_book;
-use crate::setup::buy;
-use crate::setup::cash_book;
-use crate::setup::free;
-use crate::setup::sell;
-use crate::setup::silver;
-use crate::suspension::Suspended;
-use crate::suspension::handed_back;
-use crate::suspension::spent;
-use crate::suspension::suspend;
+use crate::expected::{holds, is_at, refused, taken};
+use crate::setup::{
+    BEGUN, CUSTOMER, bank_line, bank_line_book, buy, cash_book, free, sell, silver,
+};
+use crate::suspension::{Suspended, handed_back, spent, suspend};
 use crate::tally::Tally;
-use books::bank_line::BankLineMargin;
 use books::book::MarginBook;
-use books::cash::CashMargin;
 use contracts::shag::Shag;
-use contracts::shag::ShagQuoted;
-use measures::Fen;
-use measures::Lots;
-use measures::Ticks;
-use session::session::Session;
+use measures::{Fen, Lots, Ticks};
 use rounds::stages::Stage;
+use session::session::Session;
 use sharing::table_order::TableOrder;
 use std::alloc::Global;
-use std::error::AnyError;
 
 /// Silver at 100, suspended at `BEGUN + 5` after the customer bought 10 lots (10 × 100 × 150 = 150,000 fen) and row 1
 /// sold 4 (60,000).
@@ -154,7 +136,7 @@ fn the_last_round_before_the_book(heap: Global) -> Option<bool> {
 }
 
 /// Plays the trials of this file.
-pub fn play(rt: &LibcRuntime, heap: Global, tally: &mut Tally) -> Result<(), AnyError> {
+pub fn play(rt: &HostRuntime, heap: Global, tally: &mut Tally) -> anyhow::Result<()> {
     tally.note(
         rt,
         "a_reissue_after_another_hand",

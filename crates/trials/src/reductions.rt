@@ -1,32 +1,12 @@
 //! Reductions over a book that another hand writes to.
 
-use crate::expected::holds;
-use crate::expected::is_at;
-use crate::expected::refused;
-use crate::expected::stands;
-use crate::expected::taken;
-use crate::setup::BEGUN;
-use crate::setup::CLOSED;
-use crate::setup::CUSTOMER;
-use crate::setup::ROUND_OVER;
-use crate::setup::buy;
-use crate::setup::cash_book;
-use crate::setup::free;
-use crate::setup::gold;
-use crate::setup::sell;
-use crate::setup::silver;
+use crate::expected::{holds, is_at, refused, stands, taken};
+use crate::setup::{BEGUN, CLOSED, CUSTOMER, ROUND_OVER, buy, cash_book, free, gold, sell, silver};
 use crate::tally::Tally;
 use books::book::MarginBook;
-use books::cash::CashMargin;
-use contracts::shag::ShagQuoted;
-use contracts::shau::ShauFixing;
-use contracts::shau::ShauQuoted;
-use measures::Fen;
-use measures::Lots;
+use measures::{Fen, Lots};
 use rounds::stages::Stage;
-use sharing::by_turn::ByTurnPolicy;
 use std::alloc::Global;
-use std::error::AnyError;
 
 /// Ten lots of silver at 100 freeze 10 × 100 × 150 = 150,000 fen; four of them are 60,000. Another hand leaves a fen less
 /// than that frozen, and then freezes it again.
@@ -98,7 +78,7 @@ fn a_reduction_at_the_tendered_price(heap: Global) -> Option<bool> {
 }
 
 /// Plays the trials of this file.
-pub fn play(rt: &LibcRuntime, heap: Global, tally: &mut Tally) -> Result<(), AnyError> {
+pub fn play(rt: &HostRuntime, heap: Global, tally: &mut Tally) -> anyhow::Result<()> {
     tally.note(
         rt,
         "a_reduction_after_another_hand",

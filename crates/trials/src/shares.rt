@@ -1,33 +1,17 @@
 //! How the Fixing Members share the excess of a fix.
 
-use crate::expected::fill;
-use crate::expected::filled;
-use crate::expected::stands;
-use crate::expected::taken;
-use crate::setup::BEGUN;
-use crate::setup::CLOSED;
-use crate::setup::CUSTOMER;
-use crate::setup::LIMIT;
-use crate::setup::ROUND_OVER;
-use crate::setup::cash_book;
-use crate::setup::free;
-use crate::setup::market;
+use crate::expected::{fill, filled, stands, taken};
+use crate::setup::{BEGUN, CLOSED, CUSTOMER, LIMIT, ROUND_OVER, cash_book, free, market};
 use crate::tally::Tally;
-use books::cash::CashMargin;
 use contracts::shau::Shau;
-use contracts::shau::ShauFixing;
-use contracts::shau::ShauQuoted;
 use measures::Lots;
 use rounds::sides::Side;
-use session::session::Session;
 use rounds::stages::Stage;
+use session::session::Session;
 use sharing::by_turn::ByTurn;
-use sharing::by_turn::ByTurnPolicy;
 use sharing::policy::SharingPolicy;
 use sharing::table_order::TableOrder;
-use sharing::table_order::TableOrderPolicy;
 use std::alloc::Global;
-use std::error::AnyError;
 
 /// Gold fixed at 100, after the customer alone tendered five lots: 5 × 100 × 60 = 30,000 fen. Three members share them.
 fn fixed<P: SharingPolicy + Drop>(heap: Global, policy: P, side: Side) -> Option<Session<Shau, P>> {
@@ -37,8 +21,7 @@ fn fixed<P: SharingPolicy + Drop>(heap: Global, policy: P, side: Side) -> Option
         session.tender(&mut book, BEGUN, CUSTOMER, side, Lots(5)),
         0,
         5,
-    )
-        && stands(session.close(&mut book, CLOSED), Stage::Supplementary, 100)
+    ) && stands(session.close(&mut book, CLOSED), Stage::Supplementary, 100)
         && stands(session.close(&mut book, ROUND_OVER), Stage::Fixed, 100);
     ready.then_some(session)
 }
@@ -52,12 +35,11 @@ fn by_turn_from_2(heap: Global) -> Option<bool> {
             &bought,
             100,
             &[fill(0, 2), fill(0, 1), fill(0, 2), fill(5, 0)],
-        )
-            && filled(
-                &sold,
-                100,
-                &[fill(2, 0), fill(1, 0), fill(2, 0), fill(0, 5)],
-            ),
+        ) && filled(
+            &sold,
+            100,
+            &[fill(2, 0), fill(1, 0), fill(2, 0), fill(0, 5)],
+        ),
     )
 }
 
@@ -70,12 +52,11 @@ fn by_turn_from_31_and_32(heap: Global) -> Option<bool> {
             &last,
             100,
             &[fill(0, 1), fill(0, 2), fill(0, 2), fill(5, 0)],
-        )
-            && filled(
-                &past,
-                100,
-                &[fill(0, 2), fill(0, 2), fill(0, 1), fill(5, 0)],
-            ),
+        ) && filled(
+            &past,
+            100,
+            &[fill(0, 2), fill(0, 2), fill(0, 1), fill(5, 0)],
+        ),
     )
 }
 
@@ -88,17 +69,16 @@ fn in_table_order(heap: Global) -> Option<bool> {
             &bought,
             100,
             &[fill(0, 2), fill(0, 2), fill(0, 1), fill(5, 0)],
-        )
-            && filled(
-                &sold,
-                100,
-                &[fill(2, 0), fill(2, 0), fill(1, 0), fill(0, 5)],
-            ),
+        ) && filled(
+            &sold,
+            100,
+            &[fill(2, 0), fill(2, 0), fill(1, 0), fill(0, 5)],
+        ),
     )
 }
 
 /// Plays the trials of this file.
-pub fn play(rt: &LibcRuntime, heap: Global, tally: &mut Tally) -> Result<(), AnyError> {
+pub fn play(rt: &HostRuntime, heap: Global, tally: &mut Tally) -> anyhow::Result<()> {
     tally.note(rt, "by_turn_from_2", by_turn_from_2(heap))?;
     tally.note(rt, "by_turn_from_31_and_32", by_turn_from_31_and_32(heap))?;
     tally.note(rt, "in_table_order", in_table_order(heap))

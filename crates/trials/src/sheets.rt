@@ -1,43 +1,18 @@
 //! The sheet, in the stage that has one and in those that have none.
 
-use crate::expected::fill;
-use crate::expected::filled;
-use crate::expected::holds;
-use crate::expected::is_at;
-use crate::expected::refused;
-use crate::expected::stands;
-use crate::expected::taken;
-use crate::setup::BEGUN;
-use crate::setup::CLOSED;
-use crate::setup::CUSTOMER;
-use crate::setup::LIMIT;
-use crate::setup::ROUND_OVER;
-use crate::setup::buy;
-use crate::setup::cash_book;
-use crate::setup::free;
-use crate::setup::quoting;
-use crate::setup::sell;
-use crate::setup::silver;
-use crate::suspension::Suspended;
-use crate::suspension::spent;
-use crate::suspension::suspend;
+use crate::expected::{fill, filled, holds, is_at, refused, stands, taken};
+use crate::setup::{
+    BEGUN, CLOSED, CUSTOMER, LIMIT, ROUND_OVER, buy, cash_book, free, quoting, sell, silver,
+};
+use crate::suspension::{Suspended, spent, suspend};
 use crate::tally::Tally;
-use books::cash::CashMargin;
-use contracts::shag::ShagFixing;
-use contracts::shag::ShagQuoted;
 use contracts::shau::Shau;
-use contracts::shau::ShauFixing;
-use contracts::shau::ShauQuoted;
 use measures::Ticks;
 use messages::prices::Prices;
-use messages::prices::PricesListed;
-use session::session::Session;
 use rounds::stages::Stage;
+use session::session::Session;
 use sharing::by_turn::ByTurn;
-use sharing::by_turn::ByTurnPolicy;
-use sharing::table_order::TableOrderPolicy;
 use std::alloc::Global;
-use std::error::AnyError;
 
 /// Goes through every stage but the fixed one. 401 lots sold at 10 (401 × 10 × 60 = 240,600 fen) would lower the price by
 /// 10, so the session halts.
@@ -100,7 +75,7 @@ fn the_sheet_of_a_fix(heap: Global) -> Option<bool> {
 }
 
 /// Plays the trials of this file.
-pub fn play(rt: &LibcRuntime, heap: Global, tally: &mut Tally) -> Result<(), AnyError> {
+pub fn play(rt: &HostRuntime, heap: Global, tally: &mut Tally) -> anyhow::Result<()> {
     tally.note(rt, "no_sheet_without_a_fix", no_sheet_without_a_fix(heap))?;
     tally.note(rt, "the_sheet_of_a_fix", the_sheet_of_a_fix(heap))
 }

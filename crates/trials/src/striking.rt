@@ -1,41 +1,18 @@
 //! Closes that strike lines, over a book that another hand writes to.
 
-use crate::expected::holds;
-use crate::expected::is_at;
-use crate::expected::is_unknown;
-use crate::expected::refused;
-use crate::expected::stands;
-use crate::expected::taken;
-use crate::setup::BEGUN;
-use crate::setup::CLOSED;
-use crate::setup::CUSTOMER;
-use crate::setup::ROUND_OVER;
-use crate::setup::bank_line;
-use crate::setup::bank_line_book;
-use crate::setup::buy;
-use crate::setup::cash_book;
-use crate::setup::free;
-use crate::setup::gold;
-use crate::setup::held;
-use crate::setup::sell;
-use crate::setup::silver;
+use crate::expected::{holds, is_at, is_unknown, refused, stands, taken};
+use crate::setup::{
+    BEGUN, CLOSED, CUSTOMER, ROUND_OVER, bank_line, bank_line_book, buy, cash_book, free, gold,
+    held, sell, silver,
+};
 use crate::tally::Tally;
-use books::bank_line::BankLineMargin;
 use books::book::MarginBook;
-use books::cash::CashMargin;
-use contracts::shag::ShagFixing;
-use contracts::shag::ShagQuoted;
 use contracts::shau::Shau;
-use contracts::shau::ShauFixing;
-use contracts::shau::ShauQuoted;
 use measures::Fen;
-use session::session::Session;
 use rounds::stages::Stage;
+use session::session::Session;
 use sharing::by_turn::ByTurn;
-use sharing::by_turn::ByTurnPolicy;
-use sharing::table_order::TableOrderPolicy;
 use std::alloc::Global;
-use std::error::AnyError;
 
 /// Gold at 100 in the supplementary period: row 0 has bought 200 lots (1,200,000 fen), the customer 200 and 100
 /// (1,800,000), and row 1 has sold 50 (300,000). The excess of 450 lots will raise the price by 10.
@@ -157,7 +134,7 @@ fn closes_that_ask_no_book(heap: Global) -> Option<bool> {
 }
 
 /// Plays the trials of this file.
-pub fn play(rt: &LibcRuntime, heap: Global, tally: &mut Tally) -> Result<(), AnyError> {
+pub fn play(rt: &HostRuntime, heap: Global, tally: &mut Tally) -> anyhow::Result<()> {
     tally.note(
         rt,
         "a_rise_after_another_hand",

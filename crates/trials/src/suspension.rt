@@ -2,10 +2,9 @@
 
 use crate::expected::is_at;
 use rounds::answers::Standing;
-use session::orders::RefusedMeasure;
-use session::orders::SuspensionOrder;
-use session::session::Session;
 use rounds::stages::Stage;
+use session::orders::{RefusedMeasure, SuspensionOrder};
+use session::session::Session;
 
 /// A session that is suspended, with its order.
 pub struct Suspended<C, P> {

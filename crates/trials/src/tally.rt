@@ -1,6 +1,5 @@
 //! How many trials agree.
 
-use std::error::AnyError;
 use std::fmt;
 
 /// The trials so far, and those of them that agreed.
@@ -19,22 +18,22 @@ impl Tally {
     /// Prints what came of a trial, and counts it. One that could not be set up does not agree.
     pub fn note(
         &mut self,
-        rt: &LibcRuntime,
+        rt: &HostRuntime,
         name: &str,
         agrees: Option<bool>,
-    ) -> Result<(), AnyError> {
+    ) -> anyhow::Result<()> {
         self.all = self.all.saturating_add(1);
         if let Some(true) = agrees {
             self.agreed = self.agreed.saturating_add(1);
-            println!(rt, "agrees: {name}")?;
+            println!(rt; "agrees: {name}")?;
         } else {
-            println!(rt, "DIFFERS: {name}")?;
+            println!(rt; "DIFFERS: {name}")?;
         }
         Ok(())
     }
 }
 
-pub impl fmt::Display for Tally as TallyDisplay {
+impl fmt::Display for Tally {
     fn fmt<W: fmt::Write>(&self, f: &mut fmt::Formatter<W>) -> fmt::Result {
         let agreed = self.agreed;
         let all = self.all;

@@ -1,6 +1,6 @@
-use borrow.Author.Needs.{needs}
-use Rattle·lines·proofs.Releases.{released-nothing}
-use Rattle·lines·proofs.strike.give_back.Needs as need
+use Rattle.std.proofs.Common.{rules}
+use Rattle.lines.proofs.Releases.{released-nothing}
+use Rattle.lines.proofs.strike.give_back.Goals as goal
 
-pub returns-then-due-eq0 : need.returns-then-due-eq0
-returns-then-due-eq0 g c = search (needs, released-nothing)
+pub returns-then-due-eq0 : goal.returns-then-due-eq0
+returns-then-due-eq0 g c = search (rules, released-nothing)

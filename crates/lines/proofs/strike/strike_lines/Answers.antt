@@ -1,11 +1,11 @@
-use borrow.Author.Needs.{needs}
-use Rattle·std.proofs.shelf.Edits.{map-over-more}
-use Rattle·std.proofs.shelf.Lists.{take-all, drop-all}
-use Rattle·lines·specs.Lines.{struck}
-use Rattle·lines·proofs.strike.strike_lines.Needs as need
+use Rattle.std.proofs.Common.{rules}
+use Rattle.std.proofs.lemmas.List.Edits.{map_over_more}
+use Rattle.std.proofs.lemmas.List.{take_all, drop_all}
+use Rattle.lines.specs.Lines.{struck}
+use Rattle.lines.proofs.strike.strike_lines.Goals as goal
 
-pub loop-line-again : need.loop-line-again
-loop-line-again c = search (needs, map-over-more (struck (c .args .which)))
+pub loop-line-preserved : goal.loop-line-preserved
+loop-line-preserved c = search (rules, map_over_more (struck c.args.which))
 
-pub returns : need.returns
-returns c = search (needs, take-all, drop-all)
+pub returns : goal.returns
+returns c = search (rules, take_all, drop_all)

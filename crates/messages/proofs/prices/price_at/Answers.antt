@@ -1,12 +1,10 @@
-use borrow.Author.Needs.{needs}
-use native.Mathlib.Omega.{arith}
-use mathlib.Core.Path.{sym}
-use Rattle·std.proofs.shelf.Lists.{getD-past, length-map}
-use Rattle·messages·proofs.Figures.{getD-ticks}
-use Rattle·messages·proofs.prices.price_at.Needs as need
+use Rattle.std.proofs.Common.{sym, arith, rules}
+use Rattle.std.proofs.lemmas.List.{get_or_past, length-map}
+use Rattle.messages.proofs.Figures.{get_or-ticks}
+use Rattle.messages.proofs.prices.price_at.Goals as goal
 
-pub returns-then-place-prices : need.returns-then-place-prices
-returns-then-place-prices c = search (needs, getD-ticks)
+pub returns-then-place-prices : goal.returns-then-place-prices
+returns-then-place-prices c = search (rules, get_or-ticks)
 
-pub returns-else-place-prices : need.returns-else-place-prices
-returns-else-place-prices c = sym (getD-past _ (c .args .place) 0 (simp length-map (omega arith)))
+pub returns-else-place-prices : goal.returns-else-place-prices
+returns-else-place-prices c = sym (get_or_past _ c.args.place 0 (simp length-map (omega arith)))

@@ -1,30 +1,28 @@
-use borrow.Author.Needs.{needs}
-use native.Mathlib.Omega.{arith}
-use mathlib.Core.Path.{sym, _∙_}
-use Rattle·messages·proofs.Matches.{refused-here, passed-here, at-the-end, leads-none, leads-some, ends-some, ends-none}
-use Rattle·messages·proofs.reading.check.Needs as need
+use Rattle.std.proofs.Common.{sym, ◌∙◌, arith, rules}
+use Rattle.messages.proofs.Matches.{refused-here, passed_here, at-the-end, leads-none, leads-some, ends_some, ends-none}
+use Rattle.messages.proofs.reading.check.Goals as goal
 
-pub returns-in-rest : need.returns-in-rest
-returns-in-rest c = search (needs, refused-here, leads-none)
+pub returns-in_default : goal.returns-in_default
+returns-in_default c = search (rules, refused-here, leads-none)
 
-pub returns-then-not-is-kind : need.returns-then-not-is-kind
-returns-then-not-is-kind c =
-    refused-here (c .args .more .now) (c .loop-place .left .now) (c .args .message .now) (c .loop-place .place) _ (c .loop-place .inv)
-    (c .coming .result .now) (c .coming .ensures) (c .loop-place-test .taken)
-    (leads-some (c .coming .result .now) _ _ (search needs) ∙ sym (c .if-not-is-kind .ensures tt))
+pub returns-then-not-is_kind : goal.returns-then-not-is_kind
+returns-then-not-is_kind c =
+    refused-here c.args.more.now c.loop-place.left.now c.args.message.now c.loop-place.place _ c.loop-place.invariant
+    c.coming.result.now c.coming.ensures c.loop-place-test.true
+    (leads-some c.coming.result.now _ _ (search rules) ∙ sym c.if-not-is_kind.ensures)
 
-pub loop-place-again : need.loop-place-again
-loop-place-again c =
-    passed-here (c .args .more .now) (c .loop-place .left .now) (c .args .message .now) (c .loop-place .place) _ (c .loop-place .inv)
-    (c .coming .result .now) (c .coming .ensures) (c .loop-place-test .taken)
-    (leads-some (c .coming .result .now) _ _ (search needs) ∙ sym (c .if-not-is-kind .ensures tt))
+pub loop-place-preserved : goal.loop-place-preserved
+loop-place-preserved c =
+    passed_here c.args.more.now c.loop-place.left.now c.args.message.now c.loop-place.place _ c.loop-place.invariant
+    c.coming.result.now c.coming.ensures c.loop-place-test.true
+    (leads-some c.coming.result.now _ _ (search rules) ∙ sym c.if-not-is_kind.ensures)
 
-pub returns-then-not-is-empty : need.returns-then-not-is-empty
-returns-then-not-is-empty c =
-    sym (ends-some _ _ (sym (c .if-not-is-empty .ensures tt))) ∙
-    at-the-end (c .args .more .now) (c .loop-place .left .now) (c .args .message .now) (c .loop-place .place) _ (c .loop-place .inv) (omega arith)
+pub returns-then-not-is_empty : goal.returns-then-not-is_empty
+returns-then-not-is_empty c =
+    sym (ends_some _ _ (sym c.if-not-is_empty.ensures)) ∙
+    at-the-end c.args.more.now c.loop-place.left.now c.args.message.now c.loop-place.place _ c.loop-place.invariant (omega arith)
 
-pub returns : need.returns
+pub returns : goal.returns
 returns c =
-    sym (ends-none _ _ (sym (c .if-not-is-empty .ensures tt))) ∙
-    at-the-end (c .args .more .now) (c .loop-place .left .now) (c .args .message .now) (c .loop-place .place) _ (c .loop-place .inv) (omega arith)
+    sym (ends-none _ _ (sym c.if-not-is_empty.ensures)) ∙
+    at-the-end c.args.more.now c.loop-place.left.now c.args.message.now c.loop-place.place _ c.loop-place.invariant (omega arith)

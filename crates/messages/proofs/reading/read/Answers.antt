@@ -1,27 +1,25 @@
-use borrow.Author.Needs.{needs}
-use mathlib.Core.Path.{_≡_, sym}
-use Rattle·std.specs.declared.result.Result.the-variants.{Ok}
-use Rattle·messages·specs.Calls.{said}
-use Rattle·messages·specs.Reading.{reading}
-use Rattle·messages·proofs.Matches.{fills-at}
-use Rattle·messages·proofs.Trip.{writes-back}
-use Rattle·messages·proofs.reading.read.Needs as need
+use Rattle.std.proofs.Common.{◌≡◌, Ok, sym, rules}
+use Rattle.messages.specs.Calls.{said}
+use Rattle.messages.specs.Reading.{reading}
+use Rattle.messages.proofs.Matches.{fills-at}
+use Rattle.messages.proofs.Trip.{writes-back}
+use Rattle.messages.proofs.reading.read.Goals as goal
 
-pub call-of-requires : need.call-of-requires
-call-of-requires c κs =
-    fills-at (c .in-Some .verb) (c .again .result .now) (c .first .result .now) (c .args .message .now)
-    (c .again .ensures) (c .first .ensures) (c .in-Continue-check .ensures tt)
+pub call_of-requires : goal.call_of-requires
+call_of-requires c =
+    fills-at c.in-Some.verb c.again.result.now c.first.result.now c.args.message.now
+    c.again.ensures c.first.ensures c.in_ok-check.ensures
 
-pub returns-in-rest : need.returns-in-rest
+pub returns-in_default : goal.returns-in_default
 unfolding reading
-returns-in-rest c = search needs
+returns-in_default c = search rules
 
-pub returns-in-Break-check : need.returns-in-Break-check
+pub returns-in_err-check : goal.returns-in_err-check
 unfolding reading
-returns-in-Break-check c = search needs
+returns-in_err-check c = search rules
 
-pub returns : need.returns
+pub returns : goal.returns
 unfolding reading
 returns c =
-    let a : Ok (said (c .call-of .result)) ≡ reading (c .args .message .now) = search needs in
-    record { answer = a; back = writes-back (c .args .message .now) (said (c .call-of .result)) (sym a) }
+    let a : Ok (said c.call_of.result) ≡ reading c.args.message.now = search rules in
+    record { answer = a; back = writes-back c.args.message.now (said c.call_of.result) (sym a) }

@@ -1,12 +1,12 @@
-use borrow.Author.Needs.{needs}
-use Rattle·std.proofs.shelf.Lists.{getD-past}
-use Rattle·messages·specs.Reading.{verbNamed}
-use Rattle·messages·proofs.reading.verb_of.Needs as need
+use Rattle.std.proofs.Common.{rules}
+use Rattle.std.proofs.lemmas.List.{get_or_past}
+use Rattle.messages.specs.Reading.{verb_named}
+use Rattle.messages.proofs.reading.verb_of.Goals as goal
 
-pub returns-in-rest : need.returns-in-rest
-unfolding verbNamed
-returns-in-rest c = simp (getD-past (c .args .message .now) 0 0 (search needs))
+pub returns-in_default : goal.returns-in_default
+unfolding verb_named
+returns-in_default c = simp (get_or_past c.args.message.now 0 0 (search rules))
 
-pub returns : need.returns
-unfolding verbNamed
-returns c = search needs
+pub returns : goal.returns
+unfolding verb_named
+returns c = search rules

@@ -1,19 +1,16 @@
-use Prim.Native.Nat.{_<_}
-use mathlib.Core.Path.{sym, _∙_}
-use mathlib.Core.List.{map}
-use lib.ListN.{length}
-use Rattle·std.proofs.shelf.Lists.{getD-past, length-map}
-use Rattle·messages·specs.Rows.{blankRow, paired}
-use Rattle·messages·specs.Kinds.{figureOf}
-use Rattle·messages·proofs.Figures.{length-paired, getD-paired, getD-figures}
-use Rattle·messages·proofs.rows.pair_at.Needs as need
+use Rattle.std.proofs.Common.{◌<◌, map, length, sym, ◌∙◌}
+use Rattle.std.proofs.lemmas.List.{get_or_past, length-map}
+use Rattle.messages.specs.Rows.{blank_row, paired}
+use Rattle.messages.specs.Kinds.{figure_of}
+use Rattle.messages.proofs.Figures.{length-paired, get_or-paired, get_or-figures}
+use Rattle.messages.proofs.rows.pair_at.Goals as goal
 
-pub returns-then-row-words : need.returns-then-row-words
+pub returns-then-row-words : goal.returns-then-row-words
 returns-then-row-words c =
-    let h : c .args .row < length (paired (map figureOf (c .args .words .now))) = simp (length-paired, length-map) (c .if-row-words .taken) in
-    c .of .ensures ∙ simp (c .figure .ensures, c .figure-then-row-words .ensures, getD-paired (map figureOf (c .args .words .now)) (c .args .row) h, getD-figures)
+    let h : c.args.row < length (paired (map figure_of c.args.words.now)) = simp (length-paired, length-map) c.if-row-words.true in
+    c.of.ensures ∙ simp (c.figure.ensures, c.figure-then-row-words.ensures, get_or-paired (map figure_of c.args.words.now) c.args.row h, get_or-figures)
 
-pub returns-else-row-words : need.returns-else-row-words
+pub returns-else-row-words : goal.returns-else-row-words
 returns-else-row-words c =
-    c .of-else-row-words .ensures
-    ∙ sym (getD-past (paired (map figureOf (c .args .words .now))) (c .args .row) blankRow (simp (length-paired, length-map) (c .if-row-words .left)))
+    c.of-else-row-words.ensures
+    ∙ sym (get_or_past (paired (map figure_of c.args.words.now)) c.args.row blank_row (simp (length-paired, length-map) c.if-row-words.false))

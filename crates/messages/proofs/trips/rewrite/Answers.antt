@@ -1,23 +1,18 @@
-use borrow.Author.Needs.{needs}
-use mathlib.Core.Path.{_≡_, ap, subst, _∙_}
-use mathlib.Core.List.{List}
-use Prim.Native.Nat.{ℕ}
-use lib.ListN.{take}
-use Rattle·std.specs.Vec.{made}
-use Rattle·messages·specs.Trips.{writingRead}
-use Rattle·messages·proofs.Trip.{reads-back, writes-back}
-use Rattle·messages·proofs.Cuts.{rejoins}
-use Rattle·messages·proofs.trips.rewrite.Needs as need
+use Rattle.std.proofs.Common.{◌≡◌, ℕ, List, take, IfOk, ap, ◌∙◌, subst, rules}
+use Rattle.messages.specs.Trips.{writing_read}
+use Rattle.messages.proofs.Trip.{reads-back, writes-back}
+use Rattle.messages.proofs.Cuts.{rejoins}
+use Rattle.messages.proofs.trips.rewrite.Goals as goal
 
-pub returns : need.returns
+pub returns : goal.returns
 returns c = record {
-  outcome = c .write .ensures .outcome ∙ ap (λ r. writingRead r (c .args .out .now)) (c .in-Continue-call .ensures tt .answer);
-  same = subst (λ (m : List ℕ). made (c .write .result) (λ n. take n (c .write .last .out) ≡ m)) (c .in-Continue-call .ensures tt .back) (c .write .ensures .front);
-  kept = c .write .ensures .kept;
+  outcome = c.write.ensures.outcome ∙ ap (λ r. writing_read r c.args.out.now) c.in_ok-call.ensures.answer;
+  same = subst (λ (m : List ℕ). IfOk c.write.result (λ n. take n c.write.new.out ≡ m)) c.in_ok-call.ensures.back c.write.ensures.front;
+  kept = c.write.ensures.kept;
   reads = reads-back;
   writes = writes-back;
   rejoins = rejoins;
 }
 
-pub returns-in-Break-call : need.returns-in-Break-call
-returns-in-Break-call c = record { outcome = search needs; same = search needs; kept = search needs; reads = reads-back; writes = writes-back; rejoins = rejoins }
+pub returns-in_err-call : goal.returns-in_err-call
+returns-in_err-call c = record { outcome = search rules; same = search rules; kept = search rules; reads = reads-back; writes = writes-back; rejoins = rejoins }

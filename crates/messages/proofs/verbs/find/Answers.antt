@@ -1,16 +1,16 @@
-use mathlib.Core.Path.{sym, _∙_}
-use Rattle·messages·proofs.Places.{found-here, found-later, found-nowhere}
-use Rattle·messages·proofs.verbs.find.Needs as need
+use Rattle.std.proofs.Common.{sym, ◌∙◌}
+use Rattle.messages.proofs.Places.{found_here, found-later, found_nowhere}
+use Rattle.messages.proofs.verbs.find.Goals as goal
 
-pub returns-then-number : need.returns-then-number
+pub returns-then-number : goal.returns-then-number
 returns-then-number c =
-    found-here (c .args .kind) (c .args .start) (c .loop-place .place) (c .args .kinds .now) _ _ (c .loop-place .inv) (c .loop-place-test .taken)
-    (sym (c .number .ensures) ∙ c .if-number .taken ∙ c .number-in-loop-place .ensures)
+    found_here c.args.kind c.args.start c.loop-place.place c.args.kinds.now _ _ c.loop-place.invariant c.loop-place-test.true
+    (sym c.number.ensures ∙ c.if-number.true ∙ c.number-in-loop-place.ensures)
 
-pub loop-place-again : need.loop-place-again
-loop-place-again c =
-    found-later (c .args .kind) (c .args .start) (c .loop-place .place) (c .args .kinds .now) _ _ (c .loop-place .inv) (c .loop-place-test .taken)
-    (λ e. c .if-number .left (c .number .ensures ∙ e ∙ sym (c .number-in-loop-place .ensures)))
+pub loop-place-preserved : goal.loop-place-preserved
+loop-place-preserved c =
+    found-later c.args.kind c.args.start c.loop-place.place c.args.kinds.now _ _ c.loop-place.invariant c.loop-place-test.true
+    (λ e. c.if-number.false (c.number.ensures ∙ e ∙ sym c.number-in-loop-place.ensures))
 
-pub returns : need.returns
-returns c = found-nowhere (c .args .kind) (c .args .start) (c .loop-place .place) (c .args .kinds .now) (c .args .kind) _ (c .loop-place .inv) (c .loop-place-test .left)
+pub returns : goal.returns
+returns c = found_nowhere c.args.kind c.args.start c.loop-place.place c.args.kinds.now c.args.kind _ c.loop-place.invariant c.loop-place-test.false

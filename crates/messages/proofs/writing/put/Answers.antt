@@ -1,17 +1,16 @@
-use native.Mathlib.Omega.{arith}
-use mathlib.Core.Path.{sym, _∙_}
-use Rattle·messages·specs.Writing.{draftFigures}
-use Rattle·messages·proofs.Stamps.{writes-short, writes-over, writes-all}
-use Rattle·messages·proofs.writing.put.Needs as need
+use Rattle.std.proofs.Common.{sym, ◌∙◌, arith}
+use Rattle.messages.specs.Writing.{draft_figures}
+use Rattle.messages.proofs.Stamps.{writes_short, writes-over, writes-all}
+use Rattle.messages.proofs.writing.put.Goals as goal
 
-pub returns-then-out-words : need.returns-then-out-words
-returns-then-out-words c = writes-short (c .args .draft .verb) (draftFigures (c .args .draft)) (c .args .out .now) (omega arith)
+pub returns-then-out-words : goal.returns-then-out-words
+returns-then-out-words c = writes_short c.args.draft.verb (draft_figures c.args.draft) c.args.out.now (omega arith)
 
-pub returns-in-Some : need.returns-in-Some
+pub returns-in-Some : goal.returns-in-Some
 returns-in-Some c =
-    writes-over (c .args .draft .verb) (draftFigures (c .args .draft)) (c .args .out .now) (c .in-Some .place) (omega arith) (c .in-Some .ensures tt)
+    writes-over c.args.draft.verb (draft_figures c.args.draft) c.args.out.now c.in-Some.place (omega arith) c.in-Some.ensures
 
-pub returns : need.returns
+pub returns : goal.returns
 returns c =
-    writes-all (c .args .draft .verb) (draftFigures (c .args .draft)) (c .args .out .now) (c .len-words .result) (c .fill .last .out)
-    (omega arith) (omega arith) (sym (c .in-rest .is) ∙ c .first-over .ensures) (c .fill .ensures)
+    writes-all c.args.draft.verb (draft_figures c.args.draft) c.args.out.now c.len-words.result c.fill.new.out
+    (omega arith) (omega arith) (sym c.in_default.is ∙ c.first_over.ensures) c.fill.ensures

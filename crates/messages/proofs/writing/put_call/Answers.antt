@@ -1,11 +1,11 @@
-use Rattle·messages·specs.Prices.{pricesOf}
-use Rattle·messages·specs.Rows.{rowsOf}
-use Rattle·messages·proofs.Stamps.{counted-prices, counted-opened}
-use Rattle·messages·proofs.writing.put_call.Needs as need
+use Rattle.messages.specs.Prices.{prices_of}
+use Rattle.messages.specs.Rows.{rows_of}
+use Rattle.messages.proofs.Stamps.{counted-prices, counted-opened}
+use Rattle.messages.proofs.writing.put_call.Goals as goal
 
-pub put-requires : need.put-requires
-put-requires c κs = counted-prices (pricesOf (c .in-Begin .prices))
+pub put-requires : goal.put-requires
+put-requires c = counted-prices (prices_of c.in-Begin.prices)
 
-pub put-requires-in-Open : need.put-requires-in-Open
-put-requires-in-Open c κs =
-    counted-opened (c .in-Open .metal) (c .opens .result) 0 (c .in-Open .time) (c .in-Open .price .0) (rowsOf (c .in-Open .rows)) (c .opens .ensures)
+pub put-requires-in-Open : goal.put-requires-in-Open
+put-requires-in-Open c =
+    counted-opened c.in-Open.metal c.opens.result 0 c.in-Open.time c.in-Open.price.0 (rows_of c.in-Open.rows) c.opens.ensures

@@ -1,11 +1,11 @@
-use Rattle·messages·specs.Calls.{said}
-use Rattle·messages·proofs.Trip.{written-front, written-back, written-kept}
-use Rattle·messages·proofs.writing.write.Needs as need
+use Rattle.messages.specs.Calls.{said}
+use Rattle.messages.proofs.Trip.{written-front, written_back, written-kept}
+use Rattle.messages.proofs.writing.write.Goals as goal
 
-pub returns : need.returns
+pub returns : goal.returns
 returns c = record {
-  outcome = c .put-call .ensures;
-  front = written-front (said (c .args .call .now)) (c .args .out .now) (c .put-call .last .out) (c .put-call .result) (c .put-call .ensures);
-  back = written-back (said (c .args .call .now)) (c .args .out .now) (c .put-call .last .out) (c .put-call .result) (c .put-call .ensures);
-  kept = written-kept (said (c .args .call .now)) (c .args .out .now) (c .put-call .last .out) (c .put-call .result) (c .put-call .ensures);
+  outcome = c.put_call.ensures;
+  front = written-front (said c.args.call.now) c.args.out.now c.put_call.new.out c.put_call.result c.put_call.ensures;
+  back = written_back (said c.args.call.now) c.args.out.now c.put_call.new.out c.put_call.result c.put_call.ensures;
+  kept = written-kept (said c.args.call.now) c.args.out.now c.put_call.new.out c.put_call.result c.put_call.ensures;
 }

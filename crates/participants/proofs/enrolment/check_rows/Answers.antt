@@ -1,21 +1,15 @@
-use borrow.Author.Needs.{needs}
-use native.Mathlib.Omega.{arith}
-use Prim.Native.Nat.{_<_}
-use mathlib.Core.List.{List}
-use mathlib.Core.Path.{sym, ap, _∙_}
-use lib.ListN.{length}
-use Rattle·std.specs.declared.result.Result.the-variants.{Err}
-use Rattle·std.proofs.shelf.Results.{err-from-errBy}
-use Rattle·participants·specs.declared.rows.Listed.{Listed}
-use Rattle·participants·proofs.Seated.{rows-more, rows-stop}
-use Rattle·participants·proofs.enrolment.check_rows.Needs as need
+use Rattle.std.proofs.Common.{◌<◌, List, length, Err, sym, ap, ◌∙◌, arith, rules}
+use Rattle.std.proofs.lemmas.Result.{err_from_is_err_and}
+use Rattle.participants.specs.declared.rows.Listed.{Listed}
+use Rattle.participants.proofs.Seated.{rows_more, rows-stop}
+use Rattle.participants.proofs.enrolment.check_rows.Goals as goal
 
-pub loop-row-again : need.loop-row-again
-loop-row-again g c = search (needs, rows-more)
+pub loop-row-preserved : goal.loop-row-preserved
+loop-row-preserved g c = search (rules, rows_more)
 
-pub returns-in-Break-check-participant : need.returns-in-Break-check-participant
-returns-in-Break-check-participant g c =
-    let ls : List Listed = g .R·Roster .listed (c .args .roster .now) in
-    let lt : c .loop-row .row < length ls = omega arith in
-    let p = err-from-errBy (c .from-residual .result) (c .from-residual .ensures .1) in
-    p .1 ∙ ap Err (p .2) ∙ sym (rows-stop ls (c .loop-row .row) (length ls) (c .in-Break-check-participant .field-0 .0) lt (c .loop-row .inv) (sym (c .in-Break-check-participant .ensures tt)))
+pub returns-in_err-check_participant : goal.returns-in_err-check_participant
+returns-in_err-check_participant g c =
+    let ls : List Listed = g.R.Roster.listed c.args.roster.now in
+    let lt : c.loop-row.row < length ls = omega arith in
+    let p = err_from_is_err_and c.from_residual.result c.from_residual.ensures.1 in
+    p.1 ∙ ap Err p.2 ∙ sym (rows-stop ls c.loop-row.row (length ls) c.in_err-check_participant.field-0.0 lt c.loop-row.invariant (sym c.in_err-check_participant.ensures))

@@ -1,6 +1,6 @@
-use borrow.Author.Needs.{needs}
-use Rattle·participants·proofs.Seated.{copied-more}
-use Rattle·participants·proofs.enrolment.copy_rows.Needs as need
+use Rattle.std.proofs.Common.{rules}
+use Rattle.participants.proofs.Seated.{copied_more}
+use Rattle.participants.proofs.enrolment.copy_rows.Goals as goal
 
-pub loop-row-again : need.loop-row-again
-loop-row-again g c = search (needs, copied-more)
+pub loop-row-preserved : goal.loop-row-preserved
+loop-row-preserved g c = search (rules, copied_more)

@@ -1,6 +1,6 @@
-use borrow.Author.Needs.{needs}
-use Rattle·participants·proofs.Seated.{members-more}
-use Rattle·participants·proofs.enrolment.count_members.Needs as need
+use Rattle.std.proofs.Common.{rules}
+use Rattle.participants.proofs.Seated.{members-more}
+use Rattle.participants.proofs.enrolment.count_members.Goals as goal
 
-pub loop-row-again : need.loop-row-again
-loop-row-again g c = search (needs, members-more)
+pub loop-row-preserved : goal.loop-row-preserved
+loop-row-preserved g c = search (rules, members-more)

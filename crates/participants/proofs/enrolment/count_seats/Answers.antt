@@ -1,6 +1,6 @@
-use borrow.Author.Needs.{needs}
-use Rattle·participants·proofs.Seated.{seats-more}
-use Rattle·participants·proofs.enrolment.count_seats.Needs as need
+use Rattle.std.proofs.Common.{rules}
+use Rattle.participants.proofs.Seated.{seats-more}
+use Rattle.participants.proofs.enrolment.count_seats.Goals as goal
 
-pub loop-row-again : need.loop-row-again
-loop-row-again g c = search (needs, seats-more)
+pub loop-row-preserved : goal.loop-row-preserved
+loop-row-preserved g c = search (rules, seats-more)

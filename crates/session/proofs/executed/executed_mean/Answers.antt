@@ -1,23 +1,21 @@
-use borrow.Author.Needs.{needs}
-use native.Mathlib.Omega.{arith}
-use Prim.Native.Nat.{_≤_}
-use Rattle·std.proofs.shelf.Sums.{sumBy-more}
-use Rattle·std.proofs.shelf.Lists.{take-all}
-use Rattle·participants.proofs.Averages.{nearest-le, nearest-ge}
-use Rattle·session·proofs.executed.executed_mean.Given as given
-use Rattle·session·proofs.executed.executed_mean.Needs as need
+use Rattle.std.proofs.Common.{◌≤◌, arith, rules}
+use Rattle.std.proofs.lemmas.List.Sums.{sum_by_more}
+use Rattle.std.proofs.lemmas.List.{take_all}
+use Rattle.participants.proofs.Averages.{nearest-le, nearest-ge}
+use Rattle.session.proofs.executed.executed_mean.Given as given
+use Rattle.session.proofs.executed.executed_mean.Goals as goal
 
-pub loop-place-again : need.loop-place-again
-loop-place-again g c = let a = c .pre .low (c .loop-place .place) (omega arith) in let b = c .pre .high (c .loop-place .place) (omega arith) in search (needs, sumBy-more)
+pub loop-place-preserved : goal.loop-place-preserved
+loop-place-preserved g c = let a = c.requires.low c.loop-place.place (omega arith) in let b = c.requires.high c.loop-place.place (omega arith) in search (rules, sum_by_more)
 
-within : (g : given.Over) (c : need.After-nearest-mean g) → (1 ≤ c .nearest-mean .result) × (c .nearest-mean .result ≤ 10000000)
+within : (g : given.Over) (c : goal.After-nearest_mean g) → (1 ≤ c.nearest_mean.result) × (c.nearest_mean.result ≤ 10000000)
 within g c = (
-  omega (arith, nearest-ge 1 (c .loop-place .sum) (c .count .result) (omega arith) (omega arith)),
-  omega (arith, nearest-le 10000000 (c .loop-place .sum) (c .count .result) (omega arith) (omega arith)),
+  omega (arith, nearest-ge 1 c.loop-place.sum c.count.result (omega arith) (omega arith)),
+  omega (arith, nearest-le 10000000 c.loop-place.sum c.count.result (omega arith) (omega arith)),
 )
 
-pub cast-result : need.cast-result
-cast-result g c = let b = within g c in search needs
+pub overflow_cast-result : goal.overflow_cast-result
+overflow_cast-result g c = let b = within g c in search rules
 
-pub returns : need.returns
-returns g c = record { value = search (needs, take-all); within = within g c }
+pub returns : goal.returns
+returns g c = record { value = search (rules, take_all); within = within g c }

@@ -1,15 +1,13 @@
-use borrow.Author.Needs.{needs}
-use native.Mathlib.Omega.{arith}
-use Rattle·std.specs.Of.Vec.{vec-items}
-use Rattle·rounds.specs.declared.sides.Side.the-variants.{Buy, Sell}
-use Rattle·lines·proofs.Totals.{standing-le, lots-on-le, lawful-push, standing-push}
-use Rattle·lines·proofs.table.LineTable.add.Needs as need
+use Rattle.std.proofs.Common.{vec_items, arith, rules}
+use Rattle.rounds.specs.declared.sides.Side.TheVariants.{Buy, Sell}
+use Rattle.lines.proofs.Totals.{standing-le, lots-on-le, lawful-push, standing-push}
+use Rattle.lines.proofs.table.LineTable.add.Goals as goal
 
-pub add-self : need.add-self
-add-self c = omega (arith, standing-le (c .args .self .now .rows) Buy (vec-items (c .args .self .now .lines)) (c .args .self .now .sound), lots-on-le (c .args .self .now .rows) Buy (c .args .line) (c .pre .sound), c .args .self .now .lines .ok .0)
+pub overflow_add-self : goal.overflow_add-self
+overflow_add-self c = omega (arith, standing-le c.args.self.now.rows Buy (vec_items c.args.self.now.lines) c.args.self.now.sound, lots-on-le c.args.self.now.rows Buy c.args.line c.requires.sound, c.args.self.now.lines.ok.0)
 
-pub add-self-2 : need.add-self-2
-add-self-2 c = omega (arith, standing-le (c .args .self .now .rows) Sell (vec-items (c .args .self .now .lines)) (c .args .self .now .sound), lots-on-le (c .args .self .now .rows) Sell (c .args .line) (c .pre .sound), c .args .self .now .lines .ok .0)
+pub overflow_add-self-2 : goal.overflow_add-self-2
+overflow_add-self-2 c = omega (arith, standing-le c.args.self.now.rows Sell (vec_items c.args.self.now.lines) c.args.self.now.sound, lots-on-le c.args.self.now.rows Sell c.args.line c.requires.sound, c.args.self.now.lines.ok.0)
 
-pub ghost-self : need.ghost-self
-ghost-self c = search (needs, lawful-push, standing-push)
+pub invariant_of-self : goal.invariant_of-self
+invariant_of-self c = search (rules, lawful-push, standing-push)

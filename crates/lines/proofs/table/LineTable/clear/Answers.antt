@@ -1,7 +1,7 @@
-use borrow.Author.Needs.{needs}
-use Rattle·std.proofs.shelf.Lists.{length-map}
-use Rattle·lines·proofs.Totals.{standing-struck, lawful-struck}
-use Rattle·lines·proofs.table.LineTable.clear.Needs as need
+use Rattle.std.proofs.Common.{rules}
+use Rattle.std.proofs.lemmas.List.{length-map}
+use Rattle.lines.proofs.Totals.{standing-struck, lawful-struck}
+use Rattle.lines.proofs.table.LineTable.clear.Goals as goal
 
-pub ghost-self : need.ghost-self
-ghost-self c = search (needs, standing-struck, lawful-struck, length-map)
+pub invariant_of-self : goal.invariant_of-self
+invariant_of-self c = search (rules, standing-struck, lawful-struck, length-map)

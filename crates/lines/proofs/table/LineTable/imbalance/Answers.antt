@@ -1,6 +1,6 @@
-use borrow.Author.Needs.{needs}
-use Rattle·lines·proofs.Totals.{standing-le}
-use Rattle·lines·proofs.table.LineTable.imbalance.Needs as need
+use Rattle.std.proofs.Common.{rules}
+use Rattle.lines.proofs.Totals.{standing-le}
+use Rattle.lines.proofs.table.LineTable.imbalance.Goals as goal
 
-pub returns : need.returns
-returns c = search (needs, standing-le)
+pub returns : goal.returns
+returns c = search (rules, standing-le)

@@ -1,7 +1,7 @@
-use borrow.Author.Needs.{needs}
-use Rattle·std.proofs.shelf.Lists.{getD-read}
-use Rattle·lines·proofs.Totals.{lots-at, price-at}
-use Rattle·lines·proofs.table.LineTable.line.Needs as need
+use Rattle.std.proofs.Common.{rules}
+use Rattle.std.proofs.lemmas.List.{get_or_read}
+use Rattle.lines.proofs.Totals.{lots-at, price-at}
+use Rattle.lines.proofs.table.LineTable.line.Goals as goal
 
-pub returns-then-number-len : need.returns-then-number-len
-returns-then-number-len c = search (needs, getD-read, lots-at, price-at)
+pub returns-then-number-len : goal.returns-then-number-len
+returns-then-number-len c = search (rules, get_or_read, lots-at, price-at)

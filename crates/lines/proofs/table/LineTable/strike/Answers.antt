@@ -1,46 +1,40 @@
-use borrow.Author.Needs.{needs}
-use native.Mathlib.Omega.{arith}
-use mathlib.Core.Bool.{Bool, cond}
-use mathlib.Core.List.{List}
-use mathlib.Core.Path.{_≡_, refl, ap, _∙_}
-use Rattle·std.specs.Of.Vec.{vec-items}
-use Rattle·std.specs.declared.result.Result.the-variants.{Err}
-use Rattle·std.proofs.shelf.Results.{err-from-errBy}
-use Rattle·lines·specs.Entries.{linesOf}
-use Rattle·lines·specs.Lines.{lineDue, standing}
-use Rattle·lines·specs.declared.line.Line.{Line}
-use Rattle·lines·proofs.Below.{below-rows}
-use Rattle·rounds.proofs.Refusals.{made-not, refused-all}
-use Rattle·lines·proofs.Totals.{standing-struck}
-use Rattle·lines·proofs.table.LineTable.strike.Needs as need
+use Rattle.std.proofs.Common.{Bool, cond, List, Err, refl, ap, ◌∙◌, rules}
+use Rattle.std.proofs.lemmas.Result.{err_from_is_err_and}
+use Rattle.lines.specs.Entries.{lines_of}
+use Rattle.lines.specs.Lines.{line_due, standing}
+use Rattle.lines.specs.declared.line.Line.{Line}
+use Rattle.lines.proofs.Below.{below_rows}
+use Rattle.rounds.proofs.Refusals.{made-not, refused_all}
+use Rattle.lines.proofs.Totals.{standing-struck}
+use Rattle.lines.proofs.table.LineTable.strike.Goals as goal
 
-pub returns : need.returns
+pub returns : goal.returns
 returns g c =
-    let ls : List Line = linesOf (c .args .self .now) in
+    let ls : List Line = lines_of c.args.self.now in
     record {
-      answer = search needs;
-      lines = search needs;
-      accounts = search needs;
+      answer = search rules;
+      lines = search rules;
+      accounts = search rules;
       kept = tt;
-      limit = search needs;
-      rows = search needs;
-      none = λ side h. ap (standing side) (c .clear .ensures .lines) ∙ (standing-struck (c .args .which) side ls ∙ ap (λ (b : Bool). cond b 0 (standing side ls)) h);
-      rest = λ side h. ap (standing side) (c .clear .ensures .lines) ∙ (standing-struck (c .args .which) side ls ∙ ap (λ (b : Bool). cond b 0 (standing side ls)) h);
-      whole = below-rows (c .args .self .now .rows) (lineDue (g .C·QuotedContract .margin) (c .args .which)) ls (c .args .self .now .sound);
+      limit = search rules;
+      rows = search rules;
+      none = λ side h. ap (standing side) c.clear.ensures.lines ∙ (standing-struck c.args.which side ls ∙ ap (λ (b : Bool). cond b 0 (standing side ls)) h);
+      rest = λ side h. ap (standing side) c.clear.ensures.lines ∙ (standing-struck c.args.which side ls ∙ ap (λ (b : Bool). cond b 0 (standing side ls)) h);
+      whole = below_rows c.args.self.now.rows (line_due g.C.QuotedContract.margin c.args.which) ls c.args.self.now.sound;
     }
 
-pub returns-in-Break-release : need.returns-in-Break-release
-returns-in-Break-release g c =
-    let p = err-from-errBy (c .from-residual .result) (c .from-residual .ensures .1) in
-    let w = c .in-Break-release .ensures tt in
+pub returns-in_err-release : goal.returns-in_err-release
+returns-in_err-release g c =
+    let p = err_from_is_err_and c.from_residual.result c.from_residual.ensures.1 in
+    let w = c.in_err-release.ensures in
     record {
-      answer = p .1 ∙ ap Err (p .2) ∙ w .answer;
-      lines = made-not (c .from-residual .result) (p .0) _ (p .1);
-      accounts = made-not (c .from-residual .result) (p .0) _ (p .1);
-      kept = refused-all (c .from-residual .result) _ (λ y. (refl, w .kept));
+      answer = p.1 ∙ ap Err p.2 ∙ w.answer;
+      lines = made-not c.from_residual.result p.0 _ p.1;
+      accounts = made-not c.from_residual.result p.0 _ p.1;
+      kept = refused_all c.from_residual.result _ (λ y. (refl, w.kept));
       limit = refl;
       rows = refl;
-      none = made-not (c .from-residual .result) (p .0) _ (p .1);
-      rest = made-not (c .from-residual .result) (p .0) _ (p .1);
-      whole = below-rows (c .args .self .now .rows) (lineDue (g .C·QuotedContract .margin) (c .args .which)) (linesOf (c .args .self .now)) (c .args .self .now .sound);
+      none = made-not c.from_residual.result p.0 _ p.1;
+      rest = made-not c.from_residual.result p.0 _ p.1;
+      whole = below_rows c.args.self.now.rows (line_due g.C.QuotedContract.margin c.args.which) (lines_of c.args.self.now) c.args.self.now.sound;
     }

@@ -1,38 +1,32 @@
-use borrow.Author.Needs.{needs}
-use native.Mathlib.Omega.{arith}
-use mathlib.Core.List.{List}
-use mathlib.Core.Path.{ap}
-use Prim.Native.Nat.{_<_}
-use lib.ListN.{length}
-use Rattle·std.specs.Of.Vec.{vec-items}
-use Rattle·rounds.specs.declared.sides.Side.the-variants.{Buy, Sell}
-use Rattle·lines·specs.Lines.{reduced, lotsOn}
-use Rattle·lines·specs.declared.line.Line.{Line}
-use Rattle·lines·proofs.Totals.{lots-le-read, standing-read, lawful-reduced, reduced-fits}
-use Rattle·lines·proofs.table.LineTable.take_off.Needs as need
+use Rattle.std.proofs.Common.{◌<◌, List, length, vec_items, ap, arith, rules}
+use Rattle.rounds.specs.declared.sides.Side.TheVariants.{Buy, Sell}
+use Rattle.lines.specs.Lines.{reduced, lots_on}
+use Rattle.lines.specs.declared.line.Line.{Line}
+use Rattle.lines.proofs.Totals.{lots-le-read, standing-read, lawful-reduced, reduced-fits}
+use Rattle.lines.proofs.table.LineTable.take_off.Goals as goal
 
-pub sub-self : need.sub-self
-sub-self c = let lt : c .args .line < length (vec-items (c .args .self .now .lines)) = omega arith in
-    omega (arith, lots-le-read Buy (vec-items (c .args .self .now .lines)) (c .args .line) (c .index .result .now) lt (c .index .ensures))
+pub overflow_sub-self : goal.overflow_sub-self
+overflow_sub-self c = let lt : c.args.line < length (vec_items c.args.self.now.lines) = omega arith in
+    omega (arith, lots-le-read Buy (vec_items c.args.self.now.lines) c.args.line c.index.result.now lt c.index.ensures)
 
-pub sub-self-2 : need.sub-self-2
-sub-self-2 c = let lt : c .args .line < length (vec-items (c .args .self .now .lines)) = omega arith in
-    omega (arith, lots-le-read Sell (vec-items (c .args .self .now .lines)) (c .args .line) (c .index .result .now) lt (c .index .ensures))
+pub overflow_sub-self-2 : goal.overflow_sub-self-2
+overflow_sub-self-2 c = let lt : c.args.line < length (vec_items c.args.self.now.lines) = omega arith in
+    omega (arith, lots-le-read Sell (vec_items c.args.self.now.lines) c.args.line c.index.result.now lt c.index.ensures)
 
-pub add-self : need.add-self
-add-self c = let lt : c .args .line < length (vec-items (c .args .self .now .lines)) = omega arith in
-    omega (arith, ap (lotsOn Buy) (c .less-new .ensures), reduced-fits (c .args .self .now .rows) Buy (vec-items (c .args .self .now .lines)) (c .args .line) (c .index .result .now) (c .args .lots .0) (c .args .self .now .sound) (omega arith) lt (c .index .ensures))
+pub overflow_add-self : goal.overflow_add-self
+overflow_add-self c = let lt : c.args.line < length (vec_items c.args.self.now.lines) = omega arith in
+    omega (arith, ap (lots_on Buy) c.less-new.ensures, reduced-fits c.args.self.now.rows Buy (vec_items c.args.self.now.lines) c.args.line c.index.result.now c.args.lots.0 c.args.self.now.sound (omega arith) lt c.index.ensures)
 
-pub add-self-2 : need.add-self-2
-add-self-2 c = let lt : c .args .line < length (vec-items (c .args .self .now .lines)) = omega arith in
-    omega (arith, ap (lotsOn Sell) (c .less-new .ensures), reduced-fits (c .args .self .now .rows) Sell (vec-items (c .args .self .now .lines)) (c .args .line) (c .index .result .now) (c .args .lots .0) (c .args .self .now .sound) (omega arith) lt (c .index .ensures))
+pub overflow_add-self-2 : goal.overflow_add-self-2
+overflow_add-self-2 c = let lt : c.args.line < length (vec_items c.args.self.now.lines) = omega arith in
+    omega (arith, ap (lots_on Sell) c.less-new.ensures, reduced-fits c.args.self.now.rows Sell (vec_items c.args.self.now.lines) c.args.line c.index.result.now c.args.lots.0 c.args.self.now.sound (omega arith) lt c.index.ensures)
 
-pub ghost-self : need.ghost-self
-ghost-self c =
-    let ls : List Line = vec-items (c .args .self .now .lines) in
-    let x : Line = c .index .result .now in
-    let lt : c .args .line < length ls = omega arith in
-    let b = standing-read Buy ls (c .args .line) x (reduced x (c .args .lots .0)) lt (c .index .ensures) in
-    let s = standing-read Sell ls (c .args .line) x (reduced x (c .args .lots .0)) lt (c .index .ensures) in
-    let l = lawful-reduced (c .args .self .now .rows) ls (c .args .line) x (c .args .lots .0) (c .args .self .now .sound) lt (c .index .ensures) in
-    search needs
+pub invariant_of-self : goal.invariant_of-self
+invariant_of-self c =
+    let ls : List Line = vec_items c.args.self.now.lines in
+    let x : Line = c.index.result.now in
+    let lt : c.args.line < length ls = omega arith in
+    let b = standing-read Buy ls c.args.line x (reduced x c.args.lots.0) lt c.index.ensures in
+    let s = standing-read Sell ls c.args.line x (reduced x c.args.lots.0) lt c.index.ensures in
+    let l = lawful-reduced c.args.self.now.rows ls c.args.line x c.args.lots.0 c.args.self.now.sound lt c.index.ensures in
+    search rules

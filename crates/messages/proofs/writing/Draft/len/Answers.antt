@@ -1,6 +1,6 @@
-use borrow.Author.Needs.{needs}
-use Rattle·std.proofs.shelf.Lists.{length-append}
-use Rattle·messages·proofs.writing.Draft.len.Needs as need
+use Rattle.std.proofs.Common.{rules}
+use Rattle.std.proofs.lemmas.List.{length-append}
+use Rattle.messages.proofs.writing.Draft.len.Goals as goal
 
-pub returns : need.returns
-returns c = search (needs, length-append)
+pub returns : goal.returns
+returns c = search (rules, length-append)

@@ -1,35 +1,31 @@
-use borrow.Author.Needs.{needs}
-use native.Mathlib.Omega.{arith}
-use Prim.Native.Nat.{_-_, _≤_}
-use mathlib.Core.Path.{_≡_, ap, _∙_}
-use Rattle·std.specs.Of.Vec.{vec-items}
-use Rattle·participants·specs.Means.{tallied}
-use Rattle·participants·specs.declared.tally.Tally.{Tally}
-use Rattle·participants·proofs.Averages.{Kept, nearest-le, nearest-ge, kept-at}
-use Rattle·participants·proofs.Tallied.{tallies}
-use Rattle·participants·proofs.quotes.Quotes.mean.Needs as need
+use Rattle.std.proofs.Common.{◌-◌, ◌≤◌, vec_items, ap, ◌∙◌, arith, rules}
+use Rattle.participants.specs.Means.{tallied}
+use Rattle.participants.specs.declared.tally.Tally.{Tally}
+use Rattle.participants.proofs.Averages.{nearest-le, nearest-ge, kept_at}
+use Rattle.participants.proofs.Tallied.{tallies}
+use Rattle.participants.proofs.quotes.Quotes.mean.Goals as goal
 
-pub sub-rest : need.sub-rest
-sub-rest c = let k = kept-at (vec-items (c .args .self .now .prices)) (c .tally-tally .result) (c .tally-tally .ensures .value ∙ ap tallied (c .as-slice .ensures .value)) (c .args .self .now .named) in let l = k .low (omega arith) in omega arith
+pub overflow_sub-rest : goal.overflow_sub-rest
+overflow_sub-rest c = let k = kept_at (vec_items c.args.self.now.prices) c.tally-tally.result (c.tally-tally.ensures.value ∙ ap tallied c.as_slice.ensures.value) c.args.self.now.named in let l = k.low (omega arith) in omega arith
 
-pub sub-rest-2 : need.sub-rest-2
-sub-rest-2 c = let k = kept-at (vec-items (c .args .self .now .prices)) (c .tally-tally .result) (c .tally-tally .ensures .value ∙ ap tallied (c .as-slice .ensures .value)) (c .args .self .now .named) in let l = k .low (omega arith) in omega arith
+pub overflow_sub-rest-2 : goal.overflow_sub-rest-2
+overflow_sub-rest-2 c = let k = kept_at (vec_items c.args.self.now.prices) c.tally-tally.result (c.tally-tally.ensures.value ∙ ap tallied c.as_slice.ensures.value) c.args.self.now.named in let l = k.low (omega arith) in omega arith
 
-within : (c : need.After-nearest-mean) → (1 ≤ c .nearest-mean .result) × (c .nearest-mean .result ≤ 10000000)
+within : (c : goal.After-nearest_mean) → (1 ≤ c.nearest_mean.result) × (c.nearest_mean.result ≤ 10000000)
 within c =
-    let t : Tally = c .tally-tally .result in
-    let k = kept-at (vec-items (c .args .self .now .prices)) t (c .tally-tally .ensures .value ∙ ap tallied (c .as-slice .ensures .value)) (c .args .self .now .named) in
-    let l = k .low (omega arith) in
-    let h = k .high (omega arith) in (
-      omega (arith, nearest-ge 1 ((t .sum - t .highest) - t .lowest) (t .count - 2) (omega arith) (omega arith)),
-      omega (arith, nearest-le 10000000 ((t .sum - t .highest) - t .lowest) (t .count - 2) (omega arith) (omega arith)),
+    let t : Tally = c.tally-tally.result in
+    let k = kept_at (vec_items c.args.self.now.prices) t (c.tally-tally.ensures.value ∙ ap tallied c.as_slice.ensures.value) c.args.self.now.named in
+    let l = k.low (omega arith) in
+    let h = k.high (omega arith) in (
+      omega (arith, nearest-ge 1 ((t.sum - t.highest) - t.lowest) (t.count - 2) (omega arith) (omega arith)),
+      omega (arith, nearest-le 10000000 ((t.sum - t.highest) - t.lowest) (t.count - 2) (omega arith) (omega arith)),
     )
 
-pub cast-result : need.cast-result
-cast-result c = let b = within c in search needs
+pub overflow_cast-result : goal.overflow_cast-result
+overflow_cast-result c = let b = within c in search rules
 
-pub returns : need.returns
-returns c = let e = c .tally-tally .ensures .value ∙ ap tallied (c .as-slice .ensures .value) in record { value = search needs; tallied = tallies (vec-items (c .args .self .now .prices)) (c .args .self .now .named); within = within c }
+pub returns : goal.returns
+returns c = let e = c.tally-tally.ensures.value ∙ ap tallied c.as_slice.ensures.value in record { value = search rules; tallied = tallies (vec_items c.args.self.now.prices) c.args.self.now.named; within = within c }
 
-pub returns-then-tally-lt3 : need.returns-then-tally-lt3
-returns-then-tally-lt3 c = let e = c .tally-tally .ensures .value ∙ ap tallied (c .as-slice .ensures .value) in record { value = search needs; tallied = tallies (vec-items (c .args .self .now .prices)) (c .args .self .now .named); within = tt }
+pub returns-then-tally-lt3 : goal.returns-then-tally-lt3
+returns-then-tally-lt3 c = let e = c.tally-tally.ensures.value ∙ ap tallied c.as_slice.ensures.value in record { value = search rules; tallied = tallies (vec_items c.args.self.now.prices) c.args.self.now.named; within = tt }

@@ -1,6 +1,6 @@
-use borrow.Author.Needs.{needs}
-use Rattle·participants·proofs.Named.{quotes-none}
-use Rattle·participants·proofs.quotes.Quotes.new.Needs as need
+use Rattle.std.proofs.Common.{rules}
+use Rattle.participants.proofs.Named.{quotes-none}
+use Rattle.participants.proofs.quotes.Quotes.new.Goals as goal
 
-pub ghost-result : need.ghost-result
-ghost-result c = search (needs, quotes-none)
+pub invariant_of-result : goal.invariant_of-result
+invariant_of-result c = search (rules, quotes-none)

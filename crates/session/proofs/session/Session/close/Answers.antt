@@ -1,8 +1,8 @@
-use borrow.Author.Needs.{needs}
-use Rattle·session·proofs.session.Session.close.Needs as need
+use Rattle.std.proofs.Common.{rules}
+use Rattle.session.proofs.session.Session.close.Goals as goal
 
-pub returns-in-Market : need.returns-in-Market
-returns-in-Market g c = let e = c .close-market .ensures (g .B·MarginBook .means (c .args .book .now)) in search needs
+pub returns-in-Market : goal.returns-in-Market
+returns-in-Market g c = let e = c.close_market.ensures (g.B.MarginBook.means c.args.book.now) in search rules
 
-pub returns-in-rest : need.returns-in-rest
-returns-in-rest g c = record { outcome = search needs; kept = c .close-supplementary .ensures .kept; moved = c .close-supplementary .ensures .moved }
+pub returns-in_default : goal.returns-in_default
+returns-in_default g c = record { outcome = search rules; kept = c.close_supplementary.ensures.kept; moved = c.close_supplementary.ensures.moved }

@@ -1,21 +1,24 @@
-use native.Mathlib.Omega.{arith}
-use mathlib.Core.Path.{refl, ap, _∙_}
-use lib.ListN.{length, length-replicate}
-use Rattle·participants.specs.Rosters.{rowsOf}
-use Rattle·lines.proofs.Levels.{level-none}
-use Rattle·session·proofs.session.Session.open.Needs as need
+use Rattle.std.proofs.Common.{length, refl, ap, ◌∙◌, arith}
+use Rattle.std.proofs.lemmas.List.{length-replicate}
+use Rattle.participants.specs.Rosters.{rows_of}
+use Rattle.lines.proofs.Levels.{level-none}
+use Rattle.session.proofs.session.Session.open.Goals as goal
 
--- the invariants of a session just opened, in the order of the record
-pub ghost-result : need.ghost-result
-ghost-result g c =
-    let made = c .in-Ok .ensures tt in
-    let figures = made .figures in (
-      ap length (made .quotes) ∙ length-replicate _ _,
-      (
-        made .width,
-        (
-          level-none (length (rowsOf (c .in-Ok .field-0 .participants))) 256,
-          (omega arith, (refl, (omega arith, (omega arith, (omega arith, (omega arith, (omega (arith, c .quoting-ends .ensures), (refl, tt)))))))),
-        ),
-      ),
-    )
+-- the invariants of a session just opened
+pub invariant_of-result : goal.invariant_of-result
+invariant_of-result g c =
+    let made = c.in-Ok.ensures in
+    let figures = made.figures in
+    record {
+      quoted = ap length made.quotes ∙ length-replicate _ _;
+      tied = made.width;
+      level = level-none (length (rows_of c.in-Ok.field-0.participants)) 256;
+      priced = omega arith;
+      offered = refl;
+      known = omega arith;
+      before = omega arith;
+      rounded = omega arith;
+      hour = omega arith;
+      timed = omega (arith, c.quoting_ends.ensures);
+      moved = refl;
+    }

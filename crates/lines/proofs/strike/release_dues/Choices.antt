@@ -1,7 +1,0 @@
-use mathlib.Core.Path.{_≡_}
-use Rattle·lines·specs.Striking.{dueIn}
-use Rattle·lines·specs.Striking.{releasedAll}
-use Rattle·lines·proofs.strike.release_dues.Given as given
-
-abbrev pub Inv-loop-row : given.InvT-loop-row
-Inv-loop-row g l = g .B·MarginBook .means (l .book) ≡ releasedAll (g .B·MarginBook .means (l .entry .book)) (dueIn (l .dues)) (l .row)

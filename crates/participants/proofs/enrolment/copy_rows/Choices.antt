@@ -1,7 +1,0 @@
-use mathlib.Core.Path.{_≡_}
-use Rattle·std.specs.Of.Vec.{vec-items, vec-len}
-use Rattle·participants·specs.Rosters.{copied}
-use Rattle·participants·proofs.enrolment.copy_rows.Given as given
-
-abbrev pub Inv-loop-row : given.InvT-loop-row
-Inv-loop-row g l = (vec-items (l .rows) ≡ copied (g .R·Roster .listed (l .roster)) (l .row)) × (vec-len (l .rows) ≡ l .row)
