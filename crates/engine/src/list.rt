@@ -21,9 +21,10 @@ use messages::reader::Reader;
 use messages::reading::{read, verb_of};
 use messages::rows::Rows;
 use messages::verbs::Verb;
-use session::faults::SessionFault;
-use session::lists::{PriceList, Roster};
-use session::stages::Stage;
+use participants::roster::Roster;
+use rounds::faults::SessionFault;
+use rounds::stages::Stage;
+use session::lists::PriceList;
 use sharing::table_order::TableOrder;
 use std::alloc::{AllocError, Global};
 

@@ -4,10 +4,10 @@ ghost use Rattle.std.specs.Prelude.{◌≡◌, ◌+◌, ◌*◌, ◌≤◌, leng
 ghost use Rattle.session.specs.State.{view};
 
 use crate::engine::Engine;
+use lines::fills::Fill;
 use measures::Ticks;
 use messages::faults::MessageFault;
 use messages::kinds::{Kind, word};
-use session::fills::Fill;
 
 /// Writes the price, and three words a row: its number, the lots bought, the lots sold.
 fn write_words(price: Ticks, fills: &[Fill], out: &mut [u32])

@@ -2,7 +2,7 @@
 use Rattle.std.proofs.Common.{◌≡◌, ℕ, zero, suc, ◌+◌, ◌-◌, ◌*◌, ◌/◌, ◌<◌, ◌≤◌, List, [], ◌∷◌, ◌++◌, map, length, get_or, sym, refl, arith, Bor}
 use Rattle.std.proofs.lemmas.List.{length-map, get_or_append_left, get_or-append_right}
 use Rattle.measures.specs.declared.Ticks.{Ticks}
-use Rattle.session.specs.Participants.{unlisted}
+use Rattle.participants.specs.Participants.{unlisted}
 use Rattle.messages.specs.declared.rows.OpenRow.{OpenRow}
 use Rattle.messages.specs.declared.rows.Rows.{Rows}
 use Rattle.messages.specs.declared.rows.Rows.TheVariants as rows

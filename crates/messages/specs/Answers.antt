@@ -1,5 +1,5 @@
 use Rattle.std.specs.Prelude.{ℕ, List, [], ◌∷◌, Ok, Err, Option, Result}
-use Rattle.session.specs.Stages as stage
+use Rattle.rounds.specs.Stages as stage
 use Rattle.messages.specs.declared.answers.Answer.{Answer}
 use Rattle.messages.specs.declared.answers.Answer.TheVariants.{Tendered, Standing}
 use Rattle.messages.specs.declared.faults.MessageFault.{MessageFault}

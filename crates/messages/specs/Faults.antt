@@ -1,7 +1,7 @@
 use Rattle.std.specs.Prelude.{ℕ, ◌+◌, ◌*◌, Some, None, Option}
-use Rattle.session.specs.Faults as session
-use Rattle.session.specs.declared.faults.SessionFault.{SessionFault}
-use Rattle.session.specs.declared.faults.SessionFault.TheVariants.{Time, Row, Amount, Price, Participant, Participants, LineLimit, TooManyPrices, Memory, WrongStage, Early, Over, NotOver, WrongKind, WrongSide, NothingRemains, NoSuchLine, EarlierRound, FewerLots, LinesUsedUp, Book, LastRound}
+use Rattle.rounds.specs.Faults as session
+use Rattle.rounds.specs.declared.faults.SessionFault.{SessionFault}
+use Rattle.rounds.specs.declared.faults.SessionFault.TheVariants.{Time, Row, Amount, Price, Participant, Participants, LineLimit, TooManyPrices, Memory, WrongStage, Early, Over, NotOver, WrongKind, WrongSide, NothingRemains, NoSuchLine, EarlierRound, FewerLots, LinesUsedUp, Book, LastRound}
 use Rattle.messages.specs.declared.faults.Layer.{Layer}
 use Rattle.messages.specs.declared.faults.Layer.TheVariants as layer
 use Rattle.messages.specs.declared.faults.MessageFault.{MessageFault}

@@ -1,5 +1,5 @@
 use Rattle.std.specs.Prelude.{ℕ, ◌+◌, ◌*◌, ◌/◌, ◌%◌, ◌^◌, cond, ◌&&◌, List, [], ◌∷◌, map, nat_lt}
-use Rattle.session.specs.declared.participants.Listed.{Listed}
+use Rattle.participants.specs.declared.rows.Listed.{Listed}
 use Rattle.messages.specs.declared.rows.OpenRow.{OpenRow}
 use Rattle.messages.specs.declared.rows.Rows.{Rows}
 use Rattle.messages.specs.declared.rows.Rows.TheVariants.{Words, Typed}

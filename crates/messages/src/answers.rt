@@ -6,7 +6,7 @@ ghost use Rattle.messages.specs.Answers.{answer_words};
 use crate::faults::MessageFault;
 use crate::kinds::{Kind, word};
 use crate::verbs::Verb;
-use session::answers::{Standing, Tendered};
+use rounds::answers::{Standing, Tendered};
 
 /// What an accepted call answers.
 #[derive(Clone, Copy, PartialEq, Eq, Debug)]

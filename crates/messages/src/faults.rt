@@ -6,7 +6,7 @@ ghost use Rattle.messages.specs.declared.faults.MessageFault.TheVariants.{Sessio
 
 use crate::kinds::Kind;
 use crate::verbs::Verb;
-use session::faults::SessionFault;
+use rounds::faults::SessionFault;
 
 /// A refusal of a message.
 #[derive(Clone, Copy, PartialEq, Eq, Debug)]

@@ -5,8 +5,8 @@ ghost use Rattle.messages.specs.Kinds.{figure_of};
 ghost use Rattle.messages.specs.Rows.{row_of, blank_row, participant_figure, paired, rows_of, listed_of};
 
 use crate::kinds::figure;
-use session::lists::Roster;
-use session::participants::Listed;
+use participants::roster::Roster;
+use participants::rows::Listed;
 
 /// A row of an `Open`: a participant and its free millions of fen.
 #[derive(Clone, Copy)]

@@ -13,7 +13,8 @@ use crate::prices::Prices;
 use crate::reading::coming;
 use crate::rows::Rows;
 use crate::verbs::Verb;
-use session::lists::{PriceList, Roster};
+use participants::roster::Roster;
+use session::lists::PriceList;
 
 /// What may follow the fixed fields of a message.
 #[derive(Clone, Copy)]

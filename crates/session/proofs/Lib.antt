@@ -1,10 +1,1 @@
-pub mod Totals
-pub mod Named
-pub mod Averages
 pub mod Priced
-pub mod Refusals
-pub mod Releases
-pub mod Owed
-pub mod Shared
-pub mod Seated
-pub mod Levels

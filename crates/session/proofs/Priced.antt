@@ -1,9 +1,8 @@
 use Rattle.std.proofs.Common.{◌≡◌, ℕ, ◌+◌, ◌<◌, ◌≤◌, List, length, get_or, drop, Ok, Err, sym, ap, ◌∙◌}
 use Rattle.std.proofs.lemmas.List.{drop_more, drop_all}
-use Rattle.session.specs.Gates.{Check, price_fits}
-use Rattle.session.specs.Beginning.{prices_fit}
-use Rattle.session.specs.State.{then_ok}
-use Rattle.session.specs.declared.faults.SessionFault.{SessionFault}
+use Rattle.rounds.specs.Gates.{Check, then_ok, price_fits}
+use Rattle.session.specs.Initial.{prices_fit}
+use Rattle.rounds.specs.declared.faults.SessionFault.{SessionFault}
 
 -- one price more
 fit-more : (ps : List ℕ) (i : ℕ) → i < length ps → prices_fit i (drop i ps) ≡ then_ok (price_fits i (get_or ps i 0)) (prices_fit (i + 1) (drop (i + 1) ps))

@@ -1,28 +1,13 @@
 -- The beginning of round 1.
-use Rattle.std.specs.Prelude.{ℕ, ◌+◌, cond, List, [], ◌∷◌, length, None, Ok, Err, nat_lt}
+use Rattle.std.specs.Prelude.{ℕ, ◌+◌, List}
 use Rattle.books.specs.Accounts.{Accounts}
-use Rattle.session.specs.Gates.{Check, admitted, ended, price_fits}
-use Rattle.session.specs.Means.{initial_price}
-use Rattle.session.specs.Participants.{seat_count}
-use Rattle.session.specs.Stages.{is_quoting}
-use Rattle.session.specs.State.{State, Outcome, then_ok, after, with_period, turned}
-use Rattle.session.specs.declared.answers.Standing.{Standing}
-use Rattle.session.specs.declared.faults.SessionFault.TheVariants.{TooManyPrices}
-use Rattle.session.specs.declared.periods.Period.{Period}
-use Rattle.session.specs.declared.stages.Stage.TheVariants.{Market}
-
--- at most 10,000 executed prices
-abbrev pub count_fits : List ℕ → Check
-count_fits ps = cond (nat_lt 10000 (length ps)) (Err TooManyPrices) (Ok tt)
-
--- prices, the first at place i: refused at the first that is none
-abbrev pub prices_fit : ℕ → List ℕ → Check
-prices_fit i [] = Ok tt
-prices_fit i (p ∷ ps) = then_ok (price_fits i p) (prices_fit (i + 1) ps)
-
--- round 1 starts in a market period of 60,000 ms
-abbrev pub begun : Period → ℕ → ℕ → Period
-begun p price time = record { stage = Market; round = 1; price = record { 0 = price }; previous = p.previous; clock = time; ends = time + 60000; last = None; excess = p.excess }
+use Rattle.rounds.specs.Gates.{Check, then_ok, admitted, ended}
+use Rattle.rounds.specs.Stages.{is_quoting}
+use Rattle.rounds.specs.declared.answers.Standing.{Standing}
+use Rattle.participants.specs.Participants.{seat_count}
+use Rattle.session.specs.Initial.{count_fits, prices_fit, initial_price}
+use Rattle.session.specs.Periods.{begun}
+use Rattle.session.specs.State.{State, Outcome, after, with_period, turned}
 
 module _ {P : Type 0} where
   -- trading begins 60,000 ms after quoting is over: 360,000 after a morning opening, 300,000 after an afternoon one

@@ -1,7 +1,7 @@
 -- What a suspension and a measure answer, without the order.
 use Rattle.std.specs.Prelude.{Ok, Err, Result}
-use Rattle.session.specs.declared.answers.Standing.{Standing}
-use Rattle.session.specs.declared.faults.SessionFault.{SessionFault}
+use Rattle.rounds.specs.declared.answers.Standing.{Standing}
+use Rattle.rounds.specs.declared.faults.SessionFault.{SessionFault}
 use Rattle.session.specs.declared.orders.RefusedMeasure.{RefusedMeasure}
 use Rattle.session.specs.declared.orders.SuspensionOrder.{SuspensionOrder}
 

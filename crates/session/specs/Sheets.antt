@@ -1,50 +1,22 @@
--- The sheet: what a fix gives each row.
-use Rattle.std.specs.Prelude.{◌≡◌, ℕ, ◌+◌, cond, List, map, take, sum_by, slice_index_or}
-use Rattle.std.specs.List.{range_with_len}
-use Rattle.session.specs.Lines.{same_side, other, lots_on, of_row, excess}
-use Rattle.session.specs.Participants.{nobody, is_fixing, member_count}
-use Rattle.session.specs.declared.fills.Fill.{Fill}
-use Rattle.session.specs.declared.lines.Line.{Line}
-use Rattle.session.specs.declared.lines.Side.{Side}
-use Rattle.session.specs.declared.lines.Side.TheVariants.{Buy, Sell}
-use Rattle.session.specs.declared.participants.Participant.{Participant}
+-- The sheet: the benchmark, and what each row bought and sold at it.
+use Rattle.std.specs.Prelude.{cond, List, length, take, Ok, Err, Result}
+use Rattle.measures.specs.declared.Ticks.{Ticks}
+use Rattle.rounds.specs.Stages.{is_fixed}
+use Rattle.rounds.specs.declared.faults.SessionFault.{SessionFault}
+use Rattle.rounds.specs.declared.faults.SessionFault.TheVariants.{WrongStage}
+use Rattle.lines.specs.declared.fills.Fill.{Fill}
+use Rattle.session.specs.State.{State}
+use Rattle.session.specs.declared.sheet.Sheet.{Sheet}
 
-abbrev pub no_fill : Fill
-no_fill = record { bought = record { 0 = 0 }; sold = record { 0 = 0 } }
+-- what a sheet says
+pub record Said : Type 0 where
+  pub price : Ticks
+  pub fills : List Fill
 
--- the lots of a fill on a side
-abbrev pub filled_on : Side → Fill → ℕ
-filled_on Buy f = f.bought.0
-filled_on Sell f = f.sold.0
+abbrev pub said : Result Sheet SessionFault → Result Said SessionFault
+said (Ok s) = Ok (record { price = s.price; fills = s.fills.now })
+said (Err f) = Err f
 
--- a fill with more lots on a side
-abbrev pub filled : Fill → Side → ℕ → Fill
-filled f Buy n = record { bought = record { 0 = f.bought.0 + n }; sold = f.sold }
-filled f Sell n = record { bought = f.bought; sold = record { 0 = f.sold.0 + n } }
-
--- the place of a row among the Fixing Members
-abbrev pub place_of : List Participant → ℕ → ℕ
-place_of rows row = member_count (take row rows)
-
--- a Fixing Member has the share of its place, and nobody else has one
-abbrev pub share_of : (ℕ → ℕ) → List Participant → ℕ → ℕ
-share_of share rows row = cond (is_fixing (slice_index_or rows row nobody).kind) (share (place_of rows row)) 0
-
--- a row's standing lots on a side are filled whole; the excess is shared on the other side
-abbrev pub lots_filled : (ℕ → ℕ) → List Participant → List Line → Side → ℕ → ℕ
-lots_filled share rows ls side row = of_row (lots_on side) ls row + cond (same_side (other (excess ls)) side) (share_of share rows row) 0
-
-abbrev pub fill_of : (ℕ → ℕ) → List Participant → List Line → ℕ → Fill
-fill_of share rows ls row = record { bought = record { 0 = lots_filled share rows ls Buy row }; sold = record { 0 = lots_filled share rows ls Sell row } }
-
--- a fill for each of 256 rows: one beyond the table has neither lines nor a share
-unfoldable pub fills_of : (ℕ → ℕ) → List Participant → List Line → List Fill
-fills_of share rows ls = map (fill_of share rows ls) (range_with_len 0 256)
-
--- all lots of some fills on a side
-abbrev pub total_on : Side → List Fill → ℕ
-total_on side fs = sum_by (filled_on side) fs
-
--- as many lots are bought as sold
-abbrev pub Level : List Fill → Type 0
-Level fs = total_on Buy fs ≡ total_on Sell fs
+-- of a fixed session, the Offered Price and a fill for each row
+abbrev pub sheet_outcome : {P : Type 0} → State P → Result Said SessionFault
+sheet_outcome s = cond (is_fixed s.period.stage) (Ok (record { price = s.period.price; fills = take (length s.rows) s.fills })) (Err WrongStage)

@@ -1,15 +1,19 @@
 -- A session as its rules see it, and what a call does to it.
-use Rattle.std.specs.Prelude.{ℕ, List, length, take, Ok, Err, vec_items, Option, Result}
+use Rattle.std.specs.Prelude.{ℕ, List, Ok, Err, Option, Result}
 use Rattle.measures.specs.declared.Ticks.{Ticks}
 use Rattle.books.specs.Accounts.{Accounts}
 use Rattle.books.specs.declared.faults.BookFault.{BookFault}
-use Rattle.session.specs.declared.answers.Standing.{Standing}
-use Rattle.session.specs.declared.faults.SessionFault.{SessionFault}
-use Rattle.session.specs.declared.faults.SessionFault.TheVariants.{Book}
-use Rattle.session.specs.declared.fills.Fill.{Fill}
-use Rattle.session.specs.declared.lines.Line.{Line}
-use Rattle.session.specs.declared.participants.Participant.{Participant}
-use Rattle.session.specs.declared.periods.Period.{Period}
+use Rattle.rounds.specs.Gates.{Check}
+use Rattle.rounds.specs.declared.answers.Standing.{Standing}
+use Rattle.rounds.specs.declared.faults.SessionFault.{SessionFault}
+use Rattle.rounds.specs.declared.faults.SessionFault.TheVariants.{Book}
+use Rattle.rounds.specs.declared.periods.Period.{Period}
+use Rattle.participants.specs.Named.{prices_of}
+use Rattle.participants.specs.Rosters.{rows_of}
+use Rattle.participants.specs.declared.rows.Participant.{Participant}
+use Rattle.lines.specs.Entries.{lines_of, limit_of}
+use Rattle.lines.specs.declared.fills.Fill.{Fill}
+use Rattle.lines.specs.declared.line.Line.{Line}
 use Rattle.session.specs.declared.session.Session.{Session}
 
 pub record State (P : Type 0) : Type 0 where
@@ -22,11 +26,7 @@ pub record State (P : Type 0) : Type 0 where
   pub policy : P
 
 abbrev pub view : {C P : Type 0} → Session C P → State P
-view s = record { rows = vec_items s.rows; quotes = vec_items s.quotes; lines = vec_items s.table.lines; limit = s.table.limit; fills = s.fills; period = s.period; policy = s.policy }
-
--- the fills of the sheet: one for each row of the table
-abbrev pub sheet_fills : {P : Type 0} → State P → List Fill
-sheet_fills s = take (length s.rows) s.fills
+view s = record { rows = rows_of s.participants; quotes = prices_of s.quotes; lines = lines_of s.table; limit = limit_of s.table; fills = s.fills; period = s.period; policy = s.policy }
 
 -- what a call does: its answer, and the session and the accounts afterwards
 pub record Outcome (P T : Type 0) : Type 0 where
@@ -37,18 +37,13 @@ pub record Outcome (P T : Type 0) : Type 0 where
 abbrev pub came : {P T : Type 0} → Result T SessionFault → State P → Accounts → Outcome P T
 came r s m = record { answer = r; state = s; accounts = m }
 
--- the first refusal of two checks
-abbrev pub then_ok : {X : Type 0} → Result (Unit {0}) SessionFault → Result X SessionFault → Result X SessionFault
-then_ok (Ok u) r = r
-then_ok (Err e) r = Err e
-
 -- a call that is refused changes nothing
-abbrev pub after : {P T : Type 0} → Result (Unit {0}) SessionFault → State P → Accounts → Outcome P T → Outcome P T
+abbrev pub after : {P T : Type 0} → Check → State P → Accounts → Outcome P T → Outcome P T
 after (Ok u) s m done = done
 after (Err e) s m done = record { answer = Err e; state = s; accounts = m }
 
 -- a refusal of the book is one of the session
-abbrev pub of_book : Result (Unit {0}) BookFault → Result (Unit {0}) SessionFault
+abbrev pub of_book : Result (Unit {0}) BookFault → Check
 of_book (Ok u) = Ok u
 of_book (Err e) = Err (Book e)
 

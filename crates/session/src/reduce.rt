@@ -1,29 +1,29 @@
 //! Taking lots off a line of the present round.
 
-ghost use Rattle.std.specs.Prelude.{◌≡◌, ◌<◌, ◌≤◌, vec_len, OnErr, OnOk, slice_index_or};
-ghost use Rattle.session.specs.Lines.{no_line};
+ghost use Rattle.std.specs.Prelude.{◌≡◌, ◌≤◌, IfOk, OnErr, OnOk};
+ghost use Rattle.session.specs.Reductions.{own_line, reducible, reduce_outcome};
 ghost use Rattle.session.specs.State.{view, came};
-ghost use Rattle.session.specs.Tenders.{line_check, reduce_check, reduce_outcome};
 
-use crate::answers::Standing;
-use crate::faults::SessionFault;
-use crate::gates::{check_in_time, check_lots, check_row};
-use crate::margins::margin_of;
 use crate::session::Session;
-use crate::stages::Stage;
 use books::book::MarginBook;
 use contracts::quoted::QuotedContract;
+use lines::line::Line;
+use lines::margins::margin_of;
 use measures::Lots;
+use rounds::answers::Standing;
+use rounds::faults::SessionFault;
+use rounds::gates::{check_in_time, check_lots};
+use rounds::stages::Stage;
 
 impl<C: QuotedContract, P> Session<C, P> {
-    fn check_line(&self, row: u32, line: u32, lots: Lots) -> Result<(), SessionFault>
-        ensures answer { result ≡ line_check (view self.now) row line lots.0 }
-        ensures within { OnOk result ((line < vec_len self.now.table.lines) × (lots.0 ≤ (slice_index_or self.now.table.lines.items line no_line).lots.0)) }
+    /// A row's own line of the present round, which has as many lots.
+    fn own_line(&self, row: u32, line: u32, lots: Lots) -> Result<Line, SessionFault>
+        ensures answer { result ≡ own_line (view self.now) row line lots.0 }
+        ensures price { IfOk result (λ l. l.price.0 ≤ 10000000) }
     {
-        if line as usize >= self.table.lines.len() {
+        let Some(made) = self.table.line(line) else {
             return Err(SessionFault::NoSuchLine);
-        }
-        let made = self.table.lines[line as usize];
+        };
         if made.row != row {
             return Err(SessionFault::NoSuchLine);
         }
@@ -33,18 +33,19 @@ impl<C: QuotedContract, P> Session<C, P> {
         if made.lots.0 < lots.0 {
             return Err(SessionFault::FewerLots);
         }
-        Ok(())
+        Ok(made)
     }
 
-    fn check_reduce(&self, time: u32, row: u32, line: u32, lots: Lots) -> Result<(), SessionFault>
-        ensures answer { result ≡ reduce_check C.QuotedContract.largest (view self.now) time row line lots.0 }
-        ensures within { OnOk result ((lots.0 ≤ 40000) × (line < vec_len self.now.table.lines) × (lots.0 ≤ (slice_index_or self.now.table.lines.items line no_line).lots.0)) }
+    fn reducible(&self, time: u32, row: u32, line: u32, lots: Lots) -> Result<Line, SessionFault>
+        ensures answer { result ≡ reducible C.QuotedContract.largest (view self.now) time row line lots.0 }
+        ensures within { OnOk result ((time ≤ 86399999) × (lots.0 ≤ 40000)) }
+        ensures price { IfOk result (λ l. l.price.0 ≤ 10000000) }
     {
         self.period.admit(self.period.stage == Stage::Market, time)?;
         check_in_time(self.period.ends, time)?;
-        check_row(&self.rows, row)?;
+        self.participants.kind(row)?;
         check_lots(lots, C::largest_tender())?;
-        self.check_line(row, line, lots)
+        self.own_line(row, line, lots)
     }
 
     /// Takes lots off a row's own line, and releases their margin at the price they were tendered at.
@@ -59,10 +60,9 @@ impl<C: QuotedContract, P> Session<C, P> {
         ensures outcome { came result (view self.new) (B.MarginBook.means book.new) ≡ reduce_outcome C.QuotedContract.margin C.QuotedContract.largest (view self.old) (B.MarginBook.means book.old) time row line lots.0 }
         ensures kept { OnErr result ((view self.new ≡ view self.old) × (B.MarginBook.means book.new ≡ B.MarginBook.means book.old)) }
     {
-        self.check_reduce(time, row, line, lots)?;
-        let tendered_at = self.table.lines[line as usize].price;
-        book.release(row, margin_of(C::margin_figure(), lots, tendered_at))?;
-        self.table.reduce(line as usize, lots);
+        let tendered = self.reducible(time, row, line, lots)?;
+        book.release(row, margin_of::<C>(lots, tendered.price))?;
+        self.table.reduce(line, lots);
         self.period.clock = time;
         Ok(self.standing())
     }

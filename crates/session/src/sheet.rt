@@ -1,16 +1,15 @@
 //! The sheet: what a fix gave each row.
 
-ghost use Rattle.std.specs.Prelude.{◌≡◌, true, false, IfOk, MatchResult};
-ghost use Rattle.session.specs.Sheets.{Level};
-ghost use Rattle.session.specs.Stages.{is_fixed};
-ghost use Rattle.session.specs.State.{view, sheet_fills};
-ghost use Rattle.session.specs.declared.faults.SessionFault.TheVariants.{WrongStage};
+ghost use Rattle.std.specs.Prelude.{◌≡◌, length, IfOk};
+ghost use Rattle.lines.specs.Fills.{Level};
+ghost use Rattle.session.specs.Sheets.{said, sheet_outcome};
+ghost use Rattle.session.specs.State.{view};
 
-use crate::faults::SessionFault;
-use crate::fills::Fill;
 use crate::session::Session;
-use crate::stages::Stage;
+use lines::fills::Fill;
 use measures::Ticks;
+use rounds::faults::SessionFault;
+use rounds::stages::Stage;
 
 /// The benchmark, and what each row bought and sold at it.
 #[derive(Clone, Copy)]
@@ -22,7 +21,8 @@ pub struct Sheet<'a> {
 impl<C, P> Session<C, P> {
     /// The sheet of a fixed session, a fill a row.
     pub fn sheet(&self) -> Result<Sheet<'_>, SessionFault>
-        ensures value { MatchResult result (λ s. (s.price ≡ (view self.now).period.price) × (s.fills.now ≡ sheet_fills (view self.now)) × (is_fixed (view self.now).period.stage ≡ true)) (λ f. (f ≡ WrongStage) × (is_fixed (view self.now).period.stage ≡ false)) }
+        ensures outcome { said result ≡ sheet_outcome (view self.now) }
+        ensures rows { IfOk result (λ s. length s.fills.now ≡ length (view self.now).rows) }
         ensures level { IfOk result (λ s. Level s.fills.now) }
     {
         if self.period.stage != Stage::Fixed {
@@ -30,7 +30,7 @@ impl<C, P> Session<C, P> {
         }
         Ok(Sheet {
             price: self.period.price,
-            fills: &self.fills[0..self.rows.len()],
+            fills: &self.fills[0..self.participants.count()],
         })
     }
 }

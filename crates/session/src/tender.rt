@@ -1,37 +1,41 @@
 //! Buying and selling, in the market period and against the excess.
 
-ghost use Rattle.std.specs.Prelude.{◌≡◌, ◌<◌, ◌≤◌, IfOk, vec_len, OnErr, OnOk};
+ghost use Rattle.std.specs.Prelude.{◌≡◌, ◌<◌, ◌≤◌, false, length, IfOk, OnErr, OnOk};
+ghost use Rattle.rounds.specs.Stages.{is_market};
+ghost use Rattle.lines.specs.Lines.{imbalance};
 ghost use Rattle.session.specs.State.{view, came};
-ghost use Rattle.session.specs.Tenders.{fixing_may, entry_check, room_for, market_taken, remains_of, against, supplementary_taken, lots_taken, tendered, tender_outcome};
+ghost use Rattle.session.specs.Tenders.{tenderer, room_for, market_taken, against, supplementary_taken, lots_taken, tendered, tender_outcome};
 
-use crate::answers::Tendered;
-use crate::faults::SessionFault;
-use crate::gates::{check_in_time, check_lots, check_row};
-use crate::lines::{Line, Side};
-use crate::margins::margin_of;
-use crate::participants::Kind;
 use crate::session::Session;
-use crate::stages::Stage;
 use books::book::MarginBook;
 use contracts::quoted::QuotedContract;
+use lines::line::Line;
+use lines::margins::margin_of;
 use measures::Lots;
+use participants::kinds::Kind;
+use rounds::answers::Tendered;
+use rounds::faults::SessionFault;
+use rounds::gates::{check_in_time, check_lots};
+use rounds::sides::Side;
+use rounds::stages::Stage;
 
 impl<C: QuotedContract, P> Session<C, P> {
-    fn check_entry(&self, time: u32, row: u32) -> Result<(), SessionFault>
-        ensures answer { result ≡ entry_check (view self.now) time row }
-        ensures within { OnOk result (row < vec_len self.now.rows) }
+    /// Who tenders, while tenders are taken.
+    fn tenderer(&self, time: u32, row: u32) -> Result<Kind, SessionFault>
+        ensures answer { result ≡ tenderer (view self.now) time row }
+        ensures within { OnOk result ((time ≤ 86399999) × (row < length (view self.now).rows)) }
     {
         let open = self.period.stage == Stage::Market || self.period.stage == Stage::Supplementary;
         self.period.admit(open, time)?;
         check_in_time(self.period.ends, time)?;
-        check_row(&self.rows, row)
+        self.participants.kind(row)
     }
 
     fn room_for(&self, lots: Lots) -> Result<Lots, SessionFault>
         ensures answer { result ≡ room_for (view self.now) lots.0 }
-        ensures room { IfOk result (λ n. (n.0 ≡ lots.0) × (vec_len self.now.table.lines < self.now.table.limit)) }
+        ensures room { IfOk result (λ n. (n.0 ≡ lots.0) × (length (view self.now).lines < (view self.now).limit)) }
     {
-        if self.table.lines.len() >= self.table.limit {
+        if self.table.is_used_up() {
             Err(SessionFault::LinesUsedUp)
         } else {
             Ok(lots)
@@ -40,7 +44,8 @@ impl<C: QuotedContract, P> Session<C, P> {
 
     fn market_taken(&self, lots: Lots) -> Result<Lots, SessionFault>
         ensures answer { result ≡ market_taken C.QuotedContract.largest (view self.now) lots.0 }
-        ensures within { IfOk result (λ n. (n.0 ≤ 40000) × (vec_len self.now.table.lines < self.now.table.limit)) }
+        ensures room { IfOk result (λ n. (n.0 ≤ 40000) × (length (view self.now).lines < (view self.now).limit)) }
+        ensures some { IfOk result (λ n. (1 ≤ n.0) × (n.0 ≤ lots.0)) }
     {
         check_lots(lots, C::largest_tender())?;
         self.room_for(lots)
@@ -49,9 +54,11 @@ impl<C: QuotedContract, P> Session<C, P> {
     /// What is taken of a supplementary tender: it goes against the excess, and is cut to what remains of it.
     fn against_excess(&self, side: Side, lots: Lots) -> Result<Lots, SessionFault>
         ensures answer { result ≡ against (view self.now) side lots.0 }
-        ensures within { IfOk result (λ n. (n.0 ≤ lots.0) × (vec_len self.now.table.lines < self.now.table.limit)) }
+        ensures room { OnOk result (length (view self.now).lines < (view self.now).limit) }
+        ensures some { IfOk result (λ n. (1 ≤ lots.0 → 1 ≤ n.0) × (n.0 ≤ lots.0)) }
+        ensures cut { IfOk result (λ n. n.0 ≤ imbalance (view self.now).lines) }
     {
-        if side != self.period.excess.other() {
+        if side != self.period.excess.side.other() {
             return Err(SessionFault::WrongSide);
         }
         let remaining = self.table.imbalance();
@@ -61,12 +68,13 @@ impl<C: QuotedContract, P> Session<C, P> {
         self.room_for(lots.least(remaining))
     }
 
-    fn supplementary_taken(&self, row: u32, side: Side, lots: Lots) -> Result<Lots, SessionFault>
-        requires { row < vec_len self.now.rows }
-        ensures answer { result ≡ supplementary_taken C.QuotedContract.largest (view self.now) row side lots.0 }
-        ensures within { IfOk result (λ n. (n.0 ≤ 40000) × (vec_len self.now.table.lines < self.now.table.limit)) }
+    fn supplementary_taken(&self, kind: Kind, side: Side, lots: Lots) -> Result<Lots, SessionFault>
+        ensures answer { result ≡ supplementary_taken C.QuotedContract.largest (view self.now) kind side lots.0 }
+        ensures room { IfOk result (λ n. (n.0 ≤ 40000) × (length (view self.now).lines < (view self.now).limit)) }
+        ensures some { IfOk result (λ n. (1 ≤ n.0) × (n.0 ≤ lots.0)) }
+        ensures cut { IfOk result (λ n. n.0 ≤ imbalance (view self.now).lines) }
     {
-        if self.rows[row as usize].kind != Kind::FixingMember {
+        if !kind.is_fixing() {
             return Err(SessionFault::WrongKind);
         }
         check_lots(lots, C::largest_tender())?;
@@ -75,36 +83,41 @@ impl<C: QuotedContract, P> Session<C, P> {
 
     fn lots_taken(&self, time: u32, row: u32, side: Side, lots: Lots) -> Result<Lots, SessionFault>
         ensures answer { result ≡ lots_taken C.QuotedContract.largest (view self.now) time row side lots.0 }
-        ensures within { IfOk result (λ n. (n.0 ≤ 40000) × (row < vec_len self.now.rows) × (vec_len self.now.table.lines < self.now.table.limit)) }
+        ensures within { OnOk result ((time ≤ 86399999) × (row < length (view self.now).rows)) }
+        ensures room { IfOk result (λ n. (n.0 ≤ 40000) × (length (view self.now).lines < (view self.now).limit)) }
+        ensures some { IfOk result (λ n. (1 ≤ n.0) × (n.0 ≤ lots.0)) }
+        ensures cut { IfOk result (λ n. is_market (view self.now).period.stage ≡ false → n.0 ≤ imbalance (view self.now).lines) }
     {
-        self.check_entry(time, row)?;
+        let kind = self.tenderer(time, row)?;
         match self.period.stage {
             Stage::Market => self.market_taken(lots),
-            _ => self.supplementary_taken(row, side, lots),
+            _ => self.supplementary_taken(kind, side, lots),
         }
     }
 
     /// Makes the line of an accepted tender, for which there is room.
     fn enter(&mut self, time: u32, row: u32, side: Side, taken: Lots) -> Tendered
+        requires time { time ≤ 86399999 }
         requires lots { taken.0 ≤ 40000 }
-        requires row { row < vec_len self.old.rows }
-        requires room { vec_len self.old.table.lines < self.old.table.limit }
-        ensures answer { result ≡ record { line = vec_len self.old.table.lines; lots = taken } }
+        requires row { row < length (view self.old).rows }
+        requires room { length (view self.old).lines < (view self.old).limit }
+        ensures answer { result ≡ record { line = length (view self.old).lines; lots = taken } }
         ensures state { view self.new ≡ tendered (view self.old) time row side taken.0 }
     {
-        let line = self.table.lines.len() as u32;
-        self.table.enter(Line {
+        let entered = self.table.enter(Line {
             row,
             side,
             lots: taken,
             price: self.period.price,
             round: self.period.round,
         });
+        let Some(line) = entered else { unreachable() };
         self.period.clock = time;
         Tendered { line, lots: taken }
     }
 
-    /// Takes a tender: a line of the lots taken, whose margin the book freezes.
+    /// Takes a tender: a line of the lots taken, whose margin the book freezes. Taken is a lot or more, never more than was
+    /// tendered and, in the supplementary period, never more than what remains of the imbalance.
     pub fn tender<B: MarginBook>(
         &mut self,
         book: &mut B,
@@ -115,9 +128,11 @@ impl<C: QuotedContract, P> Session<C, P> {
     ) -> Result<Tendered, SessionFault>
         ensures outcome { came result (view self.new) (B.MarginBook.means book.new) ≡ tender_outcome C.QuotedContract.margin C.QuotedContract.largest (view self.old) (B.MarginBook.means book.old) time row side lots.0 }
         ensures kept { OnErr result ((view self.new ≡ view self.old) × (B.MarginBook.means book.new ≡ B.MarginBook.means book.old)) }
+        ensures some { IfOk result (λ t. (1 ≤ t.lots.0) × (t.lots.0 ≤ lots.0)) }
+        ensures cut { IfOk result (λ t. is_market (view self.old).period.stage ≡ false → t.lots.0 ≤ imbalance (view self.old).lines) }
     {
         let taken = self.lots_taken(time, row, side, lots)?;
-        book.freeze(row, margin_of(C::margin_figure(), taken, self.period.price))?;
+        book.freeze(row, margin_of::<C>(taken, self.period.price))?;
         Ok(self.enter(time, row, side, taken))
     }
 }

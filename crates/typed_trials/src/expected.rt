@@ -2,12 +2,12 @@
 
 use crate::setup::held;
 use books::book::MarginBook;
+use lines::fills::Fill;
 use measures::{Lots, Ticks};
-use session::answers::{Standing, Tendered};
-use session::faults::SessionFault;
-use session::fills::Fill;
+use rounds::answers::{Standing, Tendered};
+use rounds::faults::SessionFault;
+use rounds::stages::Stage;
 use session::session::Session;
-use session::stages::Stage;
 
 /// Whether a call was refused by this number.
 pub fn refused<T: Drop>(answer: Result<T, SessionFault>, number: u32) -> bool {

@@ -6,7 +6,7 @@ use crate::setup::{
 };
 use crate::tally::Tally;
 use books::book::MarginBook;
-use session::stages::Stage;
+use rounds::stages::Stage;
 use std::alloc::Global;
 
 /// Ten lots of gold at 100 ask 10 × 100 × 60 = 60,000 fen. Account 0 has a fen less, account 1 just that; 7 are frozen in

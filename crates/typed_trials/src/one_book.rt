@@ -7,7 +7,7 @@ use crate::setup::{
 use crate::suspension::{Suspended, spent, suspend};
 use crate::tally::Tally;
 use measures::{Lots, Ticks};
-use session::stages::Stage;
+use rounds::stages::Stage;
 use std::alloc::Global;
 
 /// At 100 a lot of gold asks 6,000 fen, one of silver 15,000. Ten of gold and one of silver use up 75,000; two of gold given

@@ -7,9 +7,9 @@ use contracts::shau::Shau;
 use measures::Ticks;
 use messages::prices::Prices;
 use messages::rows::{OpenRow, Rows};
+use rounds::stages::Stage;
 use session::open::RefusedOpening;
 use session::session::Session;
-use session::stages::Stage;
 use sharing::by_turn::ByTurn;
 use std::alloc::Global;
 

@@ -9,8 +9,8 @@ use crate::tally::Tally;
 use books::book::MarginBook;
 use contracts::shag::Shag;
 use measures::{Fen, Lots, Ticks};
+use rounds::stages::Stage;
 use session::session::Session;
-use session::stages::Stage;
 use sharing::table_order::TableOrder;
 use std::alloc::Global;
 

@@ -5,7 +5,7 @@ use crate::setup::{BEGUN, CLOSED, CUSTOMER, ROUND_OVER, buy, cash_book, free, go
 use crate::tally::Tally;
 use books::book::MarginBook;
 use measures::{Fen, Lots};
-use session::stages::Stage;
+use rounds::stages::Stage;
 use std::alloc::Global;
 
 /// Ten lots of silver at 100 freeze 10 × 100 × 150 = 150,000 fen; four of them are 60,000. Another hand leaves a fen less

@@ -5,9 +5,9 @@ use crate::setup::{BEGUN, CLOSED, CUSTOMER, LIMIT, ROUND_OVER, cash_book, free, 
 use crate::tally::Tally;
 use contracts::shau::Shau;
 use measures::Lots;
-use session::lines::Side;
+use rounds::sides::Side;
+use rounds::stages::Stage;
 use session::session::Session;
-use session::stages::Stage;
 use sharing::by_turn::ByTurn;
 use sharing::policy::SharingPolicy;
 use sharing::table_order::TableOrder;

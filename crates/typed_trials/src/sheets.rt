@@ -9,8 +9,8 @@ use crate::tally::Tally;
 use contracts::shau::Shau;
 use measures::Ticks;
 use messages::prices::Prices;
+use rounds::stages::Stage;
 use session::session::Session;
-use session::stages::Stage;
 use sharing::by_turn::ByTurn;
 use std::alloc::Global;
 

@@ -9,8 +9,8 @@ use crate::tally::Tally;
 use books::book::MarginBook;
 use contracts::shau::Shau;
 use measures::Fen;
+use rounds::stages::Stage;
 use session::session::Session;
-use session::stages::Stage;
 use sharing::by_turn::ByTurn;
 use std::alloc::Global;
 

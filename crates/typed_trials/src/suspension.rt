@@ -1,10 +1,10 @@
 //! Suspending a session, and what becomes of its order.
 
 use crate::expected::is_at;
-use session::answers::Standing;
+use rounds::answers::Standing;
+use rounds::stages::Stage;
 use session::orders::{RefusedMeasure, SuspensionOrder};
 use session::session::Session;
-use session::stages::Stage;
 
 /// A session that is suspended, with its order.
 pub struct Suspended<C, P> {

@@ -1,4 +1,4 @@
-use Rattle.std.proofs.Common.{ℕ, List, ap, ◌∙◌, arith}
+use Rattle.std.proofs.Common.{◌≡◌, ℕ, List, ap, ◌∙◌, arith}
 use Rattle.messages.specs.Answers.{answer_words}
 use Rattle.engine.specs.Fronts.{fronted}
 use Rattle.engine.proofs.engine.Engine.answer_message.Goals as goal

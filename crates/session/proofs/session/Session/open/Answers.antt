@@ -1,27 +1,24 @@
-use Rattle.std.proofs.Common.{vec_len, sym, ap, ◌∙◌, arith}
-use Rattle.std.proofs.lemmas.Bool.Decides.{nat_tests}
-use Rattle.session.specs.Participants.{member_count, seat_count}
-use Rattle.session.proofs.Levels.{level-none}
-use Rattle.session.proofs.Named.{quotes-none}
+use Rattle.std.proofs.Common.{length, refl, ap, ◌∙◌, arith}
+use Rattle.std.proofs.lemmas.List.{length-replicate}
+use Rattle.participants.specs.Rosters.{rows_of}
+use Rattle.lines.proofs.Levels.{level-none}
 use Rattle.session.proofs.session.Session.open.Goals as goal
 
+-- the invariants of a session just opened
 pub invariant_of-result : goal.invariant_of-result
 invariant_of-result g c =
-    let figures = c.in_default.ensures.figures in
-    let counts = c.in_default.ensures.counts in
     let made = c.in-Ok.ensures in
+    let figures = made.figures in
     record {
-      few = omega (arith, made.count, counts.0);
-      counted = c.count_members-members.ensures ∙ sym (ap member_count made.rows);
-      some_members = omega (arith, c.count_members-members.ensures, counts.1);
-      few_members = omega (arith, c.count_members-members.ensures, counts.2);
-      seated = c.count_seats-seats.ensures ∙ sym (ap seat_count made.rows);
-      quoted = made.quoted ∙ sym made.count;
-      named = quotes-none _ _ made.quotes;
-      tied = made.tied ∙ sym made.count;
-      level = level-none (vec_len c.in-Ok.field-0.rows) 256;
+      quoted = ap length made.quotes ∙ length-replicate _ _;
+      tied = made.width;
+      level = level-none (length (rows_of c.in-Ok.field-0.participants)) 256;
       priced = omega arith;
-      before = omega (arith, figures.1);
+      offered = refl;
+      known = omega arith;
+      before = omega arith;
       rounded = omega arith;
-      timed = grind (arith, nat_tests);
+      hour = omega arith;
+      timed = omega (arith, c.quoting_ends.ensures);
+      moved = refl;
     }

@@ -1,7 +1,0 @@
-use Rattle.std.proofs.Common.{◌≡◌, Ok}
-use Rattle.session.specs.Dues.{due_in}
-use Rattle.session.specs.Striking.{covers_all}
-use Rattle.session.proofs.strike.check_dues.Given as goal
-
-abbrev pub invariant-loop-row : goal.invariant-loop-row
-invariant-loop-row g l = covers_all (g.B.MarginBook.means l.book) (due_in l.dues) l.row ≡ Ok tt

@@ -1,7 +1,0 @@
-use Rattle.std.proofs.Common.{rules}
-use Rattle.std.proofs.lemmas.List.{length-map}
-use Rattle.session.proofs.Totals.{standing-struck, lawful-struck}
-use Rattle.session.proofs.table.LineTable.clear.Goals as goal
-
-pub invariant_of-self : goal.invariant_of-self
-invariant_of-self c = search (rules, standing-struck, lawful-struck, length-map)
