@@ -114,11 +114,7 @@ impl LineTable {
         ensures value { result ≡ line_at (lines_of self.now) number }
         ensures within { IfSome result (λ l. (l.lots.0 ≤ 40000) × (l.price.0 ≤ 10000000)) }
     {
-        if (number as usize) < self.lines.len() {
-            Some(self.lines[number as usize])
-        } else {
-            None
-        }
+        self.lines.get(number as usize).copied()
     }
 
     /// Takes lots off a line that was made.

@@ -24,7 +24,7 @@ impl Line {
     fn due<C: QuotedContract>(&self, which: Struck) -> Fen
         requires lots { self.now.lots.0 ≤ 40000 }
         requires price { self.now.price.0 ≤ 10000000 }
-        ensures { result.0 ≡ line_due C.QuotedContract.margin which self.now }
+        ensures { result.0 ≡ line_due C.margin which self.now }
     {
         let lots = if which.hits(self.side) {
             self.lots
@@ -46,7 +46,7 @@ impl Line {
 fn sum_dues<C: QuotedContract>(lines: &[Line], which: Struck) -> [Fen; MOST_ROWS]
     requires few { length lines.now ≤ 4096 }
     requires sound { lawful 256 lines.now ≡ true }
-    ensures { (k : ℕ) → k < 256 → due_in result k ≡ due_to C.QuotedContract.margin which lines.now k }
+    ensures { (k : ℕ) → k < 256 → due_in result k ≡ due_to C.margin which lines.now k }
 {
     let mut dues = [Fen(0); MOST_ROWS];
     for line in lines {
@@ -59,7 +59,7 @@ fn sum_dues<C: QuotedContract>(lines: &[Line], which: Struck) -> [Fen; MOST_ROWS
 
 /// That an account has enough frozen for what it is due; nothing due is not asked for.
 fn check_due<B: MarginBook>(book: &B, account: u32, due: Fen) -> Result<(), BookFault>
-    ensures { result ≡ covers (B.MarginBook.means book.now account) due.0 }
+    ensures { result ≡ covers (B.means book.now account) due.0 }
 {
     if due.0 == 0 {
         return Ok(());
@@ -71,21 +71,20 @@ fn check_due<B: MarginBook>(book: &B, account: u32, due: Fen) -> Result<(), Book
     }
 }
 
-/// That the account of each of the rows has enough frozen for what it is due, rows in order.
-fn check_dues<B: MarginBook>(book: &B, dues: &[Fen], rows: usize) -> Result<(), BookFault>
-    requires few { rows ≤ 256 }
-    requires within { rows ≤ length dues.now }
-    ensures { result ≡ covers_all (B.MarginBook.means book.now) (due_in dues.now) rows }
+/// That the account of each row has enough frozen for what it is due, rows in order.
+fn check_dues<B: MarginBook>(book: &B, dues: &[Fen]) -> Result<(), BookFault>
+    requires { length dues.now ≤ 256 }
+    ensures { result ≡ covers_all (B.means book.now) (due_in dues.now) (length dues.now) }
 {
-    for row in 0..rows {
-        check_due(book, row as u32, dues[row])?;
+    for (row, due) in dues.iter().enumerate() {
+        check_due(book, row as u32, *due)?;
     }
     Ok(())
 }
 
 /// Releases to an account what it is due; nothing due is not asked for.
 fn give_back<B: MarginBook>(book: &mut B, account: u32, due: Fen)
-    ensures { B.MarginBook.means book.new ≡ released_at (B.MarginBook.means book.old) account due.0 }
+    ensures { B.means book.new ≡ released_at (B.means book.old) account due.0 }
 {
     if due.0 == 0 {
         return;
@@ -94,14 +93,13 @@ fn give_back<B: MarginBook>(book: &mut B, account: u32, due: Fen)
     let _ = book.release(account, due);
 }
 
-/// Releases to the account of each of the rows what it is due.
-fn release_dues<B: MarginBook>(book: &mut B, dues: &[Fen], rows: usize)
-    requires few { rows ≤ 256 }
-    requires within { rows ≤ length dues.now }
-    ensures { B.MarginBook.means book.new ≡ released_all (B.MarginBook.means book.old) (due_in dues.now) rows }
+/// Releases to the account of each row what it is due.
+fn release_dues<B: MarginBook>(book: &mut B, dues: &[Fen])
+    requires { length dues.now ≤ 256 }
+    ensures { B.means book.new ≡ released_all (B.means book.old) (due_in dues.now) (length dues.now) }
 {
-    for row in 0..rows {
-        give_back(book, row as u32, dues[row]);
+    for (row, due) in dues.iter().enumerate() {
+        give_back(book, row as u32, *due);
     }
 }
 
@@ -122,13 +120,14 @@ impl LineTable {
         book: &mut B,
         which: Struck,
     ) -> Result<(), BookFault>
-        ensures answer { result ≡ strike_check C.QuotedContract.margin (width_of self.now) (lines_of self.now) (B.MarginBook.means book.old) which }
-        ensures after { OnOk result (B.MarginBook.means book.new ≡ struck_accounts C.QuotedContract.margin (width_of self.now) (lines_of self.now) (B.MarginBook.means book.old) which) }
-        ensures kept { OnErr result (B.MarginBook.means book.new ≡ B.MarginBook.means book.old) }
+        ensures answer { result ≡ strike_check C.margin (width_of self.now) (lines_of self.now) (B.means book.old) which }
+        ensures after { OnOk result (B.means book.new ≡ struck_accounts C.margin (width_of self.now) (lines_of self.now) (B.means book.old) which) }
+        ensures kept { OnErr result (B.means book.new ≡ B.means book.old) }
     {
-        let dues = sum_dues::<C>(self.lines.as_slice(), which);
-        check_dues(book, &dues, self.rows)?;
-        release_dues(book, &dues, self.rows);
+        let sums = sum_dues::<C>(self.lines.as_slice(), which);
+        let dues = &sums[..self.rows];
+        check_dues(book, dues)?;
+        release_dues(book, dues);
         Ok(())
     }
 
@@ -151,15 +150,15 @@ impl LineTable {
         book: &mut B,
         which: Struck,
     ) -> Result<(), BookFault>
-        ensures answer { result ≡ strike_check C.QuotedContract.margin (width_of self.old) (lines_of self.old) (B.MarginBook.means book.old) which }
+        ensures answer { result ≡ strike_check C.margin (width_of self.old) (lines_of self.old) (B.means book.old) which }
         ensures lines { OnOk result (lines_of self.new ≡ map (struck which) (lines_of self.old)) }
-        ensures accounts { OnOk result (B.MarginBook.means book.new ≡ struck_accounts C.QuotedContract.margin (width_of self.old) (lines_of self.old) (B.MarginBook.means book.old) which) }
-        ensures kept { OnErr result ((lines_of self.new ≡ lines_of self.old) × (B.MarginBook.means book.new ≡ B.MarginBook.means book.old)) }
+        ensures accounts { OnOk result (B.means book.new ≡ struck_accounts C.margin (width_of self.old) (lines_of self.old) (B.means book.old) which) }
+        ensures kept { OnErr result ((lines_of self.new ≡ lines_of self.old) × (B.means book.new ≡ B.means book.old)) }
         ensures limit { limit_of self.new ≡ limit_of self.old }
         ensures rows { width_of self.new ≡ width_of self.old }
         ensures none { OnOk result ((side : Side) → hits which side ≡ true → standing side (lines_of self.new) ≡ 0) }
         ensures rest { OnOk result ((side : Side) → hits which side ≡ false → standing side (lines_of self.new) ≡ standing side (lines_of self.old)) }
-        ensures whole { below (width_of self.old) (due_to C.QuotedContract.margin which (lines_of self.old)) ≡ struck_margin C.QuotedContract.margin (lines_of self.old) which }
+        ensures whole { below (width_of self.old) (due_to C.margin which (lines_of self.old)) ≡ struck_margin C.margin (lines_of self.old) which }
     {
         self.release::<C, B>(book, which)?;
         self.clear(which);
