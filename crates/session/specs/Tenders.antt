@@ -23,12 +23,11 @@ abbrev pub fixing_may : Kind → Check
 fixing_may kind = cond (is_fixing kind) (Ok tt) (Err WrongKind)
 
 module _ {P : Type 0} where
-  -- who tenders, while tenders are taken
-  abbrev pub tenderer : State P → ℕ → ℕ → Result Kind SessionFault
-  tenderer s time row =
+  -- whether tenders are taken
+  abbrev pub tender_check : State P → ℕ → Check
+  tender_check s time =
       then_ok (admitted (is_market s.period.stage || is_supplementary s.period.stage) s.period time)
-      (then_ok (in_time s.period.ends time)
-      (kind_at s.rows row))
+      (in_time s.period.ends time)
 
   -- a line table is used up when the accepted tenders equal its limit
   abbrev pub room_for : State P → ℕ → Result Lots SessionFault
@@ -51,11 +50,15 @@ module _ {P : Type 0} where
       (then_ok (lots_fit largest lots)
       (against s side lots))
 
+  -- the lots taken of a row's tender, while tenders are taken
+  abbrev pub row_taken : ℕ → State P → ℕ → Side → ℕ → Result Lots SessionFault
+  row_taken largest s row side lots =
+      given (kind_at s.rows row) (λ kind.
+      cond (is_market s.period.stage) (market_taken largest s lots) (supplementary_taken largest s kind side lots))
+
   -- the lots taken, or the first of the session's own reasons to refuse
   abbrev pub lots_taken : ℕ → State P → ℕ → ℕ → Side → ℕ → Result Lots SessionFault
-  lots_taken largest s time row side lots =
-      given (tenderer s time row) (λ kind.
-      cond (is_market s.period.stage) (market_taken largest s lots) (supplementary_taken largest s kind side lots))
+  lots_taken largest s time row side lots = then_ok (tender_check s time) (row_taken largest s row side lots)
 
   -- the line of an accepted tender
   abbrev pub line_of : State P → ℕ → Side → ℕ → Line

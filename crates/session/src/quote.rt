@@ -1,7 +1,8 @@
 //! A quoting seat names its reference price.
 
-ghost use Rattle.std.specs.Prelude.{◌≡◌, ◌≤◌, OnErr, OnOk};
+ghost use Rattle.std.specs.Prelude.{◌≡◌, IfOk, OnErr};
 ghost use Rattle.books.specs.Accounts.{Accounts};
+ghost use Rattle.rounds.specs.Gates.{said};
 ghost use Rattle.session.specs.Quoting.{seat_check, quote_outcome};
 ghost use Rattle.session.specs.State.{view, came};
 
@@ -11,20 +12,22 @@ use rounds::answers::Standing;
 use rounds::faults::SessionFault;
 use rounds::gates::check_in_time;
 use rounds::stages::Stage;
+use rounds::times::TimeOfDay;
 
 impl<C, P> Session<C, P> {
     /// That a row is a quoting seat, while quotes are taken.
-    fn check_seat(&self, time: u32, row: u32) -> Result<(), SessionFault>
-        ensures answer { result ≡ seat_check (view self.now) time row }
-        ensures hour { OnOk result (time ≤ 86399999) }
+    fn check_seat(&self, time: u32, row: u32) -> Result<TimeOfDay, SessionFault>
+        ensures answer { said result ≡ seat_check (view self.now) time row }
+        ensures same { IfOk result (λ t. t.ms ≡ time) }
     {
-        self.period
+        let admitted = self
+            .period
             .admit(self.period.stage == Stage::Quoting, time)?;
         check_in_time(self.period.ends, time)?;
         if !self.participants.kind(row)?.is_seat() {
             return Err(SessionFault::WrongKind);
         }
-        Ok(())
+        Ok(admitted)
     }
 
     /// Takes a seat's price; a later one replaces it.
@@ -32,9 +35,9 @@ impl<C, P> Session<C, P> {
         ensures outcome { (m : Accounts) → came result (view self.new) m ≡ quote_outcome (view self.old) m time row price.0 }
         ensures kept { OnErr result (view self.new ≡ view self.old) }
     {
-        self.check_seat(time, row)?;
+        let time = self.check_seat(time, row)?;
         self.quotes.name(row, price)?;
-        self.period.clock = time;
+        self.period.clock = time.ms;
         Ok(self.standing())
     }
 }

@@ -1,7 +1,8 @@
 //! Taking lots off a line of the present round.
 
 ghost use Rattle.std.specs.Prelude.{◌≡◌, ◌≤◌, IfOk, OnErr, OnOk};
-ghost use Rattle.session.specs.Reductions.{own_line, reducible, reduce_outcome};
+ghost use Rattle.rounds.specs.Gates.{said};
+ghost use Rattle.session.specs.Reductions.{own_line, reduce_check, row_line, reduce_outcome};
 ghost use Rattle.session.specs.State.{view, came};
 
 use crate::session::Session;
@@ -14,6 +15,7 @@ use rounds::answers::Standing;
 use rounds::faults::SessionFault;
 use rounds::gates::{check_in_time, check_lots};
 use rounds::stages::Stage;
+use rounds::times::TimeOfDay;
 
 impl<C: QuotedContract, P> Session<C, P> {
     /// A row's own line of the present round, which has as many lots.
@@ -21,9 +23,7 @@ impl<C: QuotedContract, P> Session<C, P> {
         ensures answer { result ≡ own_line (view self.now) row line lots.0 }
         ensures price { IfOk result (λ l. l.price.0 ≤ 10000000) }
     {
-        let Some(made) = self.table.line(line) else {
-            return Err(SessionFault::NoSuchLine);
-        };
+        let made = self.table.line(line).ok_or(SessionFault::NoSuchLine)?;
         if made.row != row {
             return Err(SessionFault::NoSuchLine);
         }
@@ -36,13 +36,22 @@ impl<C: QuotedContract, P> Session<C, P> {
         Ok(made)
     }
 
-    fn reducible(&self, time: u32, row: u32, line: u32, lots: Lots) -> Result<Line, SessionFault>
-        ensures answer { result ≡ reducible C.QuotedContract.largest (view self.now) time row line lots.0 }
-        ensures within { OnOk result ((time ≤ 86399999) × (lots.0 ≤ 40000)) }
+    /// That lots can be taken off lines at a time.
+    fn check_reduce(&self, time: u32) -> Result<TimeOfDay, SessionFault>
+        ensures answer { said result ≡ reduce_check (view self.now) time }
+        ensures same { IfOk result (λ t. t.ms ≡ time) }
+    {
+        let admitted = self.period.admit(self.period.stage == Stage::Market, time)?;
+        check_in_time(self.period.ends, time)?;
+        Ok(admitted)
+    }
+
+    /// The line that a row's lots come off, while they can.
+    fn reducible(&self, row: u32, line: u32, lots: Lots) -> Result<Line, SessionFault>
+        ensures answer { result ≡ row_line C.largest (view self.now) row line lots.0 }
+        ensures lots { OnOk result (lots.0 ≤ 40000) }
         ensures price { IfOk result (λ l. l.price.0 ≤ 10000000) }
     {
-        self.period.admit(self.period.stage == Stage::Market, time)?;
-        check_in_time(self.period.ends, time)?;
         self.participants.kind(row)?;
         check_lots(lots, C::largest_tender())?;
         self.own_line(row, line, lots)
@@ -57,13 +66,14 @@ impl<C: QuotedContract, P> Session<C, P> {
         line: u32,
         lots: Lots,
     ) -> Result<Standing, SessionFault>
-        ensures outcome { came result (view self.new) (B.MarginBook.means book.new) ≡ reduce_outcome C.QuotedContract.margin C.QuotedContract.largest (view self.old) (B.MarginBook.means book.old) time row line lots.0 }
-        ensures kept { OnErr result ((view self.new ≡ view self.old) × (B.MarginBook.means book.new ≡ B.MarginBook.means book.old)) }
+        ensures outcome { came result (view self.new) (B.means book.new) ≡ reduce_outcome C.margin C.largest (view self.old) (B.means book.old) time row line lots.0 }
+        ensures kept { OnErr result ((view self.new ≡ view self.old) × (B.means book.new ≡ B.means book.old)) }
     {
-        let tendered = self.reducible(time, row, line, lots)?;
+        let time = self.check_reduce(time)?;
+        let tendered = self.reducible(row, line, lots)?;
         book.release(row, margin_of::<C>(lots, tendered.price))?;
         self.table.reduce(line, lots);
-        self.period.clock = time;
+        self.period.clock = time.ms;
         Ok(self.standing())
     }
 }

@@ -1,10 +1,11 @@
 //! Buying and selling, in the market period and against the excess.
 
 ghost use Rattle.std.specs.Prelude.{◌≡◌, ◌<◌, ◌≤◌, false, length, IfOk, OnErr, OnOk};
+ghost use Rattle.rounds.specs.Gates.{said};
 ghost use Rattle.rounds.specs.Stages.{is_market};
 ghost use Rattle.lines.specs.Lines.{imbalance};
 ghost use Rattle.session.specs.State.{view, came};
-ghost use Rattle.session.specs.Tenders.{tenderer, room_for, market_taken, against, supplementary_taken, lots_taken, tendered, tender_outcome};
+ghost use Rattle.session.specs.Tenders.{tender_check, room_for, market_taken, against, supplementary_taken, row_taken, tendered, tender_outcome};
 
 use crate::session::Session;
 use books::book::MarginBook;
@@ -18,17 +19,18 @@ use rounds::faults::SessionFault;
 use rounds::gates::{check_in_time, check_lots};
 use rounds::sides::Side;
 use rounds::stages::Stage;
+use rounds::times::TimeOfDay;
 
 impl<C: QuotedContract, P> Session<C, P> {
-    /// Who tenders, while tenders are taken.
-    fn tenderer(&self, time: u32, row: u32) -> Result<Kind, SessionFault>
-        ensures answer { result ≡ tenderer (view self.now) time row }
-        ensures within { OnOk result ((time ≤ 86399999) × (row < length (view self.now).rows)) }
+    /// That tenders are taken at a time.
+    fn check_tender(&self, time: u32) -> Result<TimeOfDay, SessionFault>
+        ensures answer { said result ≡ tender_check (view self.now) time }
+        ensures same { IfOk result (λ t. t.ms ≡ time) }
     {
-        let open = self.period.stage == Stage::Market || self.period.stage == Stage::Supplementary;
-        self.period.admit(open, time)?;
+        let open = matches!(self.period.stage, Stage::Market | Stage::Supplementary);
+        let admitted = self.period.admit(open, time)?;
         check_in_time(self.period.ends, time)?;
-        self.participants.kind(row)
+        Ok(admitted)
     }
 
     fn room_for(&self, lots: Lots) -> Result<Lots, SessionFault>
@@ -43,7 +45,7 @@ impl<C: QuotedContract, P> Session<C, P> {
     }
 
     fn market_taken(&self, lots: Lots) -> Result<Lots, SessionFault>
-        ensures answer { result ≡ market_taken C.QuotedContract.largest (view self.now) lots.0 }
+        ensures answer { result ≡ market_taken C.largest (view self.now) lots.0 }
         ensures room { IfOk result (λ n. (n.0 ≤ 40000) × (length (view self.now).lines < (view self.now).limit)) }
         ensures some { IfOk result (λ n. (1 ≤ n.0) × (n.0 ≤ lots.0)) }
     {
@@ -69,7 +71,7 @@ impl<C: QuotedContract, P> Session<C, P> {
     }
 
     fn supplementary_taken(&self, kind: Kind, side: Side, lots: Lots) -> Result<Lots, SessionFault>
-        ensures answer { result ≡ supplementary_taken C.QuotedContract.largest (view self.now) kind side lots.0 }
+        ensures answer { result ≡ supplementary_taken C.largest (view self.now) kind side lots.0 }
         ensures room { IfOk result (λ n. (n.0 ≤ 40000) × (length (view self.now).lines < (view self.now).limit)) }
         ensures some { IfOk result (λ n. (1 ≤ n.0) × (n.0 ≤ lots.0)) }
         ensures cut { IfOk result (λ n. n.0 ≤ imbalance (view self.now).lines) }
@@ -81,14 +83,15 @@ impl<C: QuotedContract, P> Session<C, P> {
         self.against_excess(side, lots)
     }
 
-    fn lots_taken(&self, time: u32, row: u32, side: Side, lots: Lots) -> Result<Lots, SessionFault>
-        ensures answer { result ≡ lots_taken C.QuotedContract.largest (view self.now) time row side lots.0 }
-        ensures within { OnOk result ((time ≤ 86399999) × (row < length (view self.now).rows)) }
+    /// What is taken of a row's tender, while tenders are taken.
+    fn lots_taken(&self, row: u32, side: Side, lots: Lots) -> Result<Lots, SessionFault>
+        ensures answer { result ≡ row_taken C.largest (view self.now) row side lots.0 }
+        ensures within { OnOk result (row < length (view self.now).rows) }
         ensures room { IfOk result (λ n. (n.0 ≤ 40000) × (length (view self.now).lines < (view self.now).limit)) }
         ensures some { IfOk result (λ n. (1 ≤ n.0) × (n.0 ≤ lots.0)) }
         ensures cut { IfOk result (λ n. is_market (view self.now).period.stage ≡ false → n.0 ≤ imbalance (view self.now).lines) }
     {
-        let kind = self.tenderer(time, row)?;
+        let kind = self.participants.kind(row)?;
         match self.period.stage {
             Stage::Market => self.market_taken(lots),
             _ => self.supplementary_taken(kind, side, lots),
@@ -96,13 +99,12 @@ impl<C: QuotedContract, P> Session<C, P> {
     }
 
     /// Makes the line of an accepted tender, for which there is room.
-    fn enter(&mut self, time: u32, row: u32, side: Side, taken: Lots) -> Tendered
-        requires time { time ≤ 86399999 }
+    fn enter(&mut self, time: TimeOfDay, row: u32, side: Side, taken: Lots) -> Tendered
         requires lots { taken.0 ≤ 40000 }
         requires row { row < length (view self.old).rows }
         requires room { length (view self.old).lines < (view self.old).limit }
         ensures answer { result ≡ record { line = length (view self.old).lines; lots = taken } }
-        ensures state { view self.new ≡ tendered (view self.old) time row side taken.0 }
+        ensures state { view self.new ≡ tendered (view self.old) time.ms row side taken.0 }
     {
         let entered = self.table.enter(Line {
             row,
@@ -112,7 +114,7 @@ impl<C: QuotedContract, P> Session<C, P> {
             round: self.period.round,
         });
         let Some(line) = entered else { unreachable() };
-        self.period.clock = time;
+        self.period.clock = time.ms;
         Tendered { line, lots: taken }
     }
 
@@ -126,12 +128,13 @@ impl<C: QuotedContract, P> Session<C, P> {
         side: Side,
         lots: Lots,
     ) -> Result<Tendered, SessionFault>
-        ensures outcome { came result (view self.new) (B.MarginBook.means book.new) ≡ tender_outcome C.QuotedContract.margin C.QuotedContract.largest (view self.old) (B.MarginBook.means book.old) time row side lots.0 }
-        ensures kept { OnErr result ((view self.new ≡ view self.old) × (B.MarginBook.means book.new ≡ B.MarginBook.means book.old)) }
+        ensures outcome { came result (view self.new) (B.means book.new) ≡ tender_outcome C.margin C.largest (view self.old) (B.means book.old) time row side lots.0 }
+        ensures kept { OnErr result ((view self.new ≡ view self.old) × (B.means book.new ≡ B.means book.old)) }
         ensures some { IfOk result (λ t. (1 ≤ t.lots.0) × (t.lots.0 ≤ lots.0)) }
         ensures cut { IfOk result (λ t. is_market (view self.old).period.stage ≡ false → t.lots.0 ≤ imbalance (view self.old).lines) }
     {
-        let taken = self.lots_taken(time, row, side, lots)?;
+        let time = self.check_tender(time)?;
+        let taken = self.lots_taken(row, side, lots)?;
         book.freeze(row, margin_of::<C>(taken, self.period.price))?;
         Ok(self.enter(time, row, side, taken))
     }

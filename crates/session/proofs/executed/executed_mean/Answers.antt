@@ -6,7 +6,7 @@ use Rattle.session.proofs.executed.executed_mean.Given as given
 use Rattle.session.proofs.executed.executed_mean.Goals as goal
 
 pub loop-place-preserved : goal.loop-place-preserved
-loop-place-preserved g c = let a = c.requires.low c.loop-place.place (omega arith) in let b = c.requires.high c.loop-place.place (omega arith) in search (rules, sum_by_more)
+loop-place-preserved g c = let p = c.requires.priced c.loop-place.place (omega arith) in search (rules, sum_by_more)
 
 within : (g : given.Over) (c : goal.After-nearest_mean g) → (1 ≤ c.nearest_mean.result) × (c.nearest_mean.result ≤ 10000000)
 within g c = (

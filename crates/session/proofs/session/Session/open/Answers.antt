@@ -8,17 +8,12 @@ use Rattle.session.proofs.session.Session.open.Goals as goal
 pub invariant_of-result : goal.invariant_of-result
 invariant_of-result g c =
     let made = c.in-Ok.ensures in
-    let figures = made.figures in
+    let price = made.price in
+    let same = made.same in
+    let day = c.in-Ok.field-0.time.of_day in
     record {
       quoted = ap length made.quotes ∙ length-replicate _ _;
       tied = made.width;
       level = level-none (length (rows_of c.in-Ok.field-0.participants)) 256;
-      priced = omega arith;
-      offered = refl;
-      known = omega arith;
-      before = omega arith;
-      rounded = omega arith;
-      hour = omega arith;
-      timed = omega (arith, c.quoting_ends.ensures);
-      moved = refl;
+      lawful = (omega arith, refl, omega arith, omega arith, omega arith, omega arith, omega (arith, c.quoting_ends.ensures), refl);
     }
