@@ -1,10 +1,9 @@
 //! The beginning of round 1, at the Initial Price.
 
-ghost use Rattle.std.specs.Prelude.{◌≡◌, ◌≤◌, length, IfOk, OnErr, OnOk};
+ghost use Rattle.std.specs.Prelude.{◌≡◌, ◌≤◌, length, IfOk, OnErr};
 ghost use Rattle.books.specs.Accounts.{Accounts};
-ghost use Rattle.rounds.specs.Gates.{said};
 ghost use Rattle.participants.specs.Participants.{seat_count};
-ghost use Rattle.session.specs.Beginning.{begin_check, begin_outcome};
+ghost use Rattle.session.specs.Beginning.{begin_outcome};
 ghost use Rattle.session.specs.Initial.{Prices, initial_price};
 ghost use Rattle.session.specs.State.{view, came};
 
@@ -17,29 +16,11 @@ use rounds::faults::SessionFault;
 use rounds::gates::check_ended;
 use rounds::periods::Period;
 use rounds::stages::Stage;
-use rounds::times::TimeOfDay;
 
 /// The most executed prices of a beginning.
 const MOST_PRICES: usize = 10_000;
 
 impl<C, P> Session<C, P> {
-    fn check_begin<L: PriceList>(&self, time: u32, executed: &L) -> Result<TimeOfDay, SessionFault>
-        ensures answer { said result ≡ begin_check (view self.now) time (L.prices executed.now) }
-        ensures same { IfOk result (λ t. t.ms ≡ time) }
-        ensures few { OnOk result (length (L.prices executed.now) ≤ 10000) }
-        ensures priced { OnOk result (Prices (L.prices executed.now)) }
-    {
-        if executed.count() > MOST_PRICES {
-            return Err(SessionFault::TooManyPrices);
-        }
-        let admitted = self
-            .period
-            .admit(self.period.stage == Stage::Quoting, time)?;
-        check_ended(self.period.ends + 60_000, time)?;
-        check_prices(executed)?;
-        Ok(admitted)
-    }
-
     /// The Initial Price: from the quotes, else from the executed prices, else the previous benchmark.
     fn initial_price<L: PriceList>(&self, executed: &L) -> Ticks
         requires few { length (L.prices executed.now) ≤ 10000 }
@@ -60,7 +41,13 @@ impl<C, P> Session<C, P> {
         ensures kept { OnErr result (view self.new ≡ view self.old) }
         ensures offered { IfOk result (λ s. (1 ≤ s.price.0) × (s.price.0 ≤ 10000000)) }
     {
-        let time = self.check_begin(time, executed)?;
+        if executed.count() > MOST_PRICES {
+            return Err(SessionFault::TooManyPrices);
+        }
+        let quoting = self.period.stage == Stage::Quoting;
+        let time = self.period.admit(quoting, time)?;
+        check_ended(self.period.ends + 60_000, time.ms)?;
+        check_prices(executed)?;
         let price = self.initial_price(executed);
         self.period = Period {
             stage: Stage::Market,

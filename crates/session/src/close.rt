@@ -1,12 +1,11 @@
 //! The end of a period: the price is fixed, supplementary tenders are asked for, the price moves, or the session halts.
 
-ghost use Rattle.std.specs.Prelude.{◌≡◌, ◌<◌, ◌≤◌, true, IfOk, Ok, OnErr, OnOk};
+ghost use Rattle.std.specs.Prelude.{◌≡◌, ◌<◌, ◌≤◌, true, IfOk, Ok, OnErr};
 ghost use Rattle.books.specs.Accounts.{Accounts};
-ghost use Rattle.rounds.specs.Gates.{said};
 ghost use Rattle.rounds.specs.Moves.{moved_price, up_for, Beyond};
 ghost use Rattle.rounds.specs.Stages.{is_market, is_supplementary};
 ghost use Rattle.lines.specs.Lines.{imbalance, excess};
-ghost use Rattle.session.specs.Closing.{close_check, close_move, market_outcome, move_outcome, supplementary_outcome, close_outcome};
+ghost use Rattle.session.specs.Closing.{close_move, market_outcome, move_outcome, supplementary_outcome, close_outcome};
 ghost use Rattle.session.specs.Periods.{entered};
 ghost use Rattle.session.specs.State.{view, came, with_period, standing_at};
 
@@ -25,17 +24,6 @@ use sharing::policy::SharingPolicy;
 pub(crate) const LAST_ROUND: u32 = 64;
 
 impl<C, P> Session<C, P> {
-    fn check_close(&self, time: u32) -> Result<TimeOfDay, SessionFault>
-        ensures answer { said result ≡ close_check (view self.now) time }
-        ensures same { IfOk result (λ t. t.ms ≡ time) }
-        ensures offered { OnOk result (1 ≤ self.now.period.price.0) }
-    {
-        let open = matches!(self.period.stage, Stage::Market | Stage::Supplementary);
-        let admitted = self.period.admit(open, time)?;
-        check_ended(self.period.ends, time)?;
-        Ok(admitted)
-    }
-
     /// Enters another stage of the same round, at the same price.
     pub(crate) fn turn_to(&mut self, stage: Stage, time: TimeOfDay) -> Standing
         requires { 1 ≤ self.old.period.price.0 }
@@ -138,7 +126,9 @@ impl<C: FixingContract, P: SharingPolicy> Session<C, P> {
         ensures kept { OnErr result ((view self.new ≡ view self.old) × (B.means book.new ≡ B.means book.old)) }
         ensures moved { IfOk result (λ s. is_market s.stage ≡ true → Beyond (up_for (excess (view self.old).lines)) self.old.period.price.0 s.price.0) }
     {
-        let time = self.check_close(time)?;
+        let open = matches!(self.period.stage, Stage::Market | Stage::Supplementary);
+        let time = self.period.admit(open, time)?;
+        check_ended(self.period.ends, time.ms)?;
         match self.period.stage {
             Stage::Market => Ok(self.close_market(time)),
             _ => self.close_supplementary(book, time),

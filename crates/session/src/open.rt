@@ -78,7 +78,11 @@ fn quoting_ends(time: TimeOfDay) -> u32
     ensures value { result ≡ quoting_ends time.ms }
     ensures bound { result ≤ 86700000 }
 {
-    let lasts = if time.ms < 43_200_000 { 300_000 } else { 240_000 };
+    let lasts = if time.ms < 43_200_000 {
+        300_000
+    } else {
+        240_000
+    };
     time.ms + lasts
 }
 
@@ -145,6 +149,8 @@ impl<C> Session<C, TableOrder> {
         ensures opened { IfOk result (λ s. view s ≡ opened (R.listed roster.now) time previous limit in_table_order) }
         ensures fault { Refuses (open_check (R.listed roster.now) time previous.0 limit) result }
     {
-        Session::open(heap, time, previous, roster, limit, TableOrder).map_err(|refused| refused.fault)
+        Session::open(heap, time, previous, roster, limit, TableOrder).map_err(
+            |refused| refused.fault,
+        )
     }
 }

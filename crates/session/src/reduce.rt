@@ -1,8 +1,7 @@
 //! Taking lots off a line of the present round.
 
 ghost use Rattle.std.specs.Prelude.{◌≡◌, ◌≤◌, IfOk, OnErr, OnOk};
-ghost use Rattle.rounds.specs.Gates.{said};
-ghost use Rattle.session.specs.Reductions.{own_line, reduce_check, row_line, reduce_outcome};
+ghost use Rattle.session.specs.Reductions.{own_line, row_line, reduce_outcome};
 ghost use Rattle.session.specs.State.{view, came};
 
 use crate::session::Session;
@@ -15,7 +14,6 @@ use rounds::answers::Standing;
 use rounds::faults::SessionFault;
 use rounds::gates::{check_in_time, check_lots};
 use rounds::stages::Stage;
-use rounds::times::TimeOfDay;
 
 impl<C: QuotedContract, P> Session<C, P> {
     /// A row's own line of the present round, which has as many lots.
@@ -34,16 +32,6 @@ impl<C: QuotedContract, P> Session<C, P> {
             return Err(SessionFault::FewerLots);
         }
         Ok(made)
-    }
-
-    /// That lots can be taken off lines at a time.
-    fn check_reduce(&self, time: u32) -> Result<TimeOfDay, SessionFault>
-        ensures answer { said result ≡ reduce_check (view self.now) time }
-        ensures same { IfOk result (λ t. t.ms ≡ time) }
-    {
-        let admitted = self.period.admit(self.period.stage == Stage::Market, time)?;
-        check_in_time(self.period.ends, time)?;
-        Ok(admitted)
     }
 
     /// The line that a row's lots come off, while they can.
@@ -69,7 +57,9 @@ impl<C: QuotedContract, P> Session<C, P> {
         ensures outcome { came result (view self.new) (B.means book.new) ≡ reduce_outcome C.margin C.largest (view self.old) (B.means book.old) time row line lots.0 }
         ensures kept { OnErr result ((view self.new ≡ view self.old) × (B.means book.new ≡ B.means book.old)) }
     {
-        let time = self.check_reduce(time)?;
+        let open = self.period.stage == Stage::Market;
+        let time = self.period.admit(open, time)?;
+        check_in_time(self.period.ends, time.ms)?;
         let tendered = self.reducible(row, line, lots)?;
         book.release(row, margin_of::<C>(lots, tendered.price))?;
         self.table.reduce(line, lots);

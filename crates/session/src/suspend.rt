@@ -1,9 +1,8 @@
 //! Suspension, and the two measures that end it.
 
-ghost use Rattle.std.specs.Prelude.{◌≡◌, ◌<◌, ◌≤◌, IfOk, IfErr, OnErr, OnOk};
+ghost use Rattle.std.specs.Prelude.{◌≡◌, IfErr, OnErr};
 ghost use Rattle.books.specs.Accounts.{Accounts};
-ghost use Rattle.rounds.specs.Gates.{said, then_ok};
-ghost use Rattle.session.specs.Measures.{suspend_check, measure_check, round_left, suspend_outcome, reissue_outcome, announce_outcome};
+ghost use Rattle.session.specs.Measures.{suspend_outcome, reissue_outcome, announce_outcome};
 ghost use Rattle.session.specs.Orders.{with_order, without_order};
 ghost use Rattle.session.specs.State.{view, came};
 
@@ -19,51 +18,20 @@ use rounds::gates::check_price;
 use rounds::periods::Period;
 use rounds::sides::Struck;
 use rounds::stages::Stage;
-use rounds::times::TimeOfDay;
 
 impl<C, P> Session<C, P> {
-    fn check_suspend(&self, time: u32) -> Result<TimeOfDay, SessionFault>
-        ensures answer { said result ≡ suspend_check (view self.now) time }
-        ensures same { IfOk result (λ t. t.ms ≡ time) }
-        ensures offered { OnOk result (1 ≤ self.now.period.price.0) }
-    {
-        let running = matches!(self.period.stage, Stage::Market | Stage::Supplementary | Stage::Halted);
-        self.period.admit(running, time)
-    }
-
     /// Suspends the session, and hands out the order that a measure takes back.
     pub fn suspend(&mut self, time: u32) -> Result<(Standing, SuspensionOrder), SessionFault>
         ensures outcome { (m : Accounts) → came (without_order result) (view self.new) m ≡ suspend_outcome (view self.old) m time }
         ensures kept { OnErr result (view self.new ≡ view self.old) }
     {
-        let time = self.check_suspend(time)?;
+        let running = matches!(
+            self.period.stage,
+            Stage::Market | Stage::Supplementary | Stage::Halted
+        );
+        let time = self.period.admit(running, time)?;
         let standing = self.turn_to(Stage::Suspended, time);
         Ok((standing, SuspensionOrder::new(self.period.round)))
-    }
-
-    fn check_measure(&self, time: u32, price: Ticks) -> Result<TimeOfDay, SessionFault>
-        ensures answer { said result ≡ measure_check (view self.now) time price.0 }
-        ensures same { IfOk result (λ t. t.ms ≡ time) }
-        ensures price { OnOk result ((1 ≤ price.0) × (price.0 ≤ 10000000)) }
-    {
-        let admitted = self
-            .period
-            .admit(self.period.stage == Stage::Suspended, time)?;
-        check_price(price, 0)?;
-        Ok(admitted)
-    }
-
-    fn check_reissue(&self, time: u32, price: Ticks) -> Result<TimeOfDay, SessionFault>
-        ensures answer { said result ≡ then_ok (measure_check (view self.now) time price.0) (round_left (view self.now)) }
-        ensures same { IfOk result (λ t. t.ms ≡ time) }
-        ensures price { OnOk result ((1 ≤ price.0) × (price.0 ≤ 10000000)) }
-        ensures round { OnOk result (self.now.period.round < 64) }
-    {
-        let admitted = self.check_measure(time, price)?;
-        if self.period.round >= LAST_ROUND {
-            return Err(SessionFault::LastRound);
-        }
-        Ok(admitted)
     }
 }
 
@@ -77,7 +45,12 @@ impl<C: QuotedContract, P> Session<C, P> {
         ensures outcome { came result (view self.new) (B.means book.new) ≡ reissue_outcome C.margin (view self.old) (B.means book.old) time price }
         ensures kept { OnErr result ((view self.new ≡ view self.old) × (B.means book.new ≡ B.means book.old)) }
     {
-        let time = self.check_reissue(time, price)?;
+        let suspended = self.period.stage == Stage::Suspended;
+        let time = self.period.admit(suspended, time)?;
+        check_price(price, 0)?;
+        if self.period.round >= LAST_ROUND {
+            return Err(SessionFault::LastRound);
+        }
         let period = Period {
             stage: Stage::Market,
             round: self.period.round + 1,
@@ -99,7 +72,9 @@ impl<C: QuotedContract, P> Session<C, P> {
         ensures outcome { came result (view self.new) (B.means book.new) ≡ announce_outcome C.margin (view self.old) (B.means book.old) time price }
         ensures kept { OnErr result ((view self.new ≡ view self.old) × (B.means book.new ≡ B.means book.old)) }
     {
-        let time = self.check_measure(time, price)?;
+        let suspended = self.period.stage == Stage::Suspended;
+        let time = self.period.admit(suspended, time)?;
+        check_price(price, 0)?;
         let period = Period {
             stage: Stage::Announced,
             price,

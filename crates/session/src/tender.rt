@@ -1,11 +1,10 @@
 //! Buying and selling, in the market period and against the excess.
 
 ghost use Rattle.std.specs.Prelude.{◌≡◌, ◌<◌, ◌≤◌, false, length, IfOk, OnErr, OnOk};
-ghost use Rattle.rounds.specs.Gates.{said};
 ghost use Rattle.rounds.specs.Stages.{is_market};
 ghost use Rattle.lines.specs.Lines.{imbalance};
 ghost use Rattle.session.specs.State.{view, came};
-ghost use Rattle.session.specs.Tenders.{tender_check, room_for, market_taken, against, supplementary_taken, row_taken, tendered, tender_outcome};
+ghost use Rattle.session.specs.Tenders.{room_check, against, supplementary_taken, row_taken, tendered, tender_outcome};
 
 use crate::session::Session;
 use books::book::MarginBook;
@@ -22,41 +21,20 @@ use rounds::stages::Stage;
 use rounds::times::TimeOfDay;
 
 impl<C: QuotedContract, P> Session<C, P> {
-    /// That tenders are taken at a time.
-    fn check_tender(&self, time: u32) -> Result<TimeOfDay, SessionFault>
-        ensures answer { said result ≡ tender_check (view self.now) time }
-        ensures same { IfOk result (λ t. t.ms ≡ time) }
-    {
-        let open = matches!(self.period.stage, Stage::Market | Stage::Supplementary);
-        let admitted = self.period.admit(open, time)?;
-        check_in_time(self.period.ends, time)?;
-        Ok(admitted)
-    }
-
-    fn room_for(&self, lots: Lots) -> Result<Lots, SessionFault>
-        ensures answer { result ≡ room_for (view self.now) lots.0 }
-        ensures room { IfOk result (λ n. (n.0 ≡ lots.0) × (length (view self.now).lines < (view self.now).limit)) }
+    /// That there is room for another line.
+    fn check_room(&self) -> Result<(), SessionFault>
+        ensures answer { result ≡ room_check (view self.now) }
+        ensures room { OnOk result (length (view self.now).lines < (view self.now).limit) }
     {
         if self.table.is_used_up() {
-            Err(SessionFault::LinesUsedUp)
-        } else {
-            Ok(lots)
+            return Err(SessionFault::LinesUsedUp);
         }
-    }
-
-    fn market_taken(&self, lots: Lots) -> Result<Lots, SessionFault>
-        ensures answer { result ≡ market_taken C.largest (view self.now) lots.0 }
-        ensures room { IfOk result (λ n. (n.0 ≤ 40000) × (length (view self.now).lines < (view self.now).limit)) }
-        ensures some { IfOk result (λ n. (1 ≤ n.0) × (n.0 ≤ lots.0)) }
-    {
-        check_lots(lots, C::largest_tender())?;
-        self.room_for(lots)
+        Ok(())
     }
 
     /// What is taken of a supplementary tender: it goes against the excess, and is cut to what remains of it.
     fn against_excess(&self, side: Side, lots: Lots) -> Result<Lots, SessionFault>
         ensures answer { result ≡ against (view self.now) side lots.0 }
-        ensures room { OnOk result (length (view self.now).lines < (view self.now).limit) }
         ensures some { IfOk result (λ n. (1 ≤ lots.0 → 1 ≤ n.0) × (n.0 ≤ lots.0)) }
         ensures cut { IfOk result (λ n. n.0 ≤ imbalance (view self.now).lines) }
     {
@@ -67,13 +45,13 @@ impl<C: QuotedContract, P> Session<C, P> {
         if remaining.0 == 0 {
             return Err(SessionFault::NothingRemains);
         }
-        self.room_for(lots.least(remaining))
+        Ok(lots.least(remaining))
     }
 
     fn supplementary_taken(&self, kind: Kind, side: Side, lots: Lots) -> Result<Lots, SessionFault>
         ensures answer { result ≡ supplementary_taken C.largest (view self.now) kind side lots.0 }
-        ensures room { IfOk result (λ n. (n.0 ≤ 40000) × (length (view self.now).lines < (view self.now).limit)) }
         ensures some { IfOk result (λ n. (1 ≤ n.0) × (n.0 ≤ lots.0)) }
+        ensures most { OnOk result (lots.0 ≤ 40000) }
         ensures cut { IfOk result (λ n. n.0 ≤ imbalance (view self.now).lines) }
     {
         if !kind.is_fixing() {
@@ -86,14 +64,16 @@ impl<C: QuotedContract, P> Session<C, P> {
     /// What is taken of a row's tender, while tenders are taken.
     fn lots_taken(&self, row: u32, side: Side, lots: Lots) -> Result<Lots, SessionFault>
         ensures answer { result ≡ row_taken C.largest (view self.now) row side lots.0 }
-        ensures within { OnOk result (row < length (view self.now).rows) }
-        ensures room { IfOk result (λ n. (n.0 ≤ 40000) × (length (view self.now).lines < (view self.now).limit)) }
-        ensures some { IfOk result (λ n. (1 ≤ n.0) × (n.0 ≤ lots.0)) }
+        ensures row { OnOk result (row < length (view self.now).rows) }
+        ensures some { IfOk result (λ n. (1 ≤ n.0) × (n.0 ≤ lots.0) × (n.0 ≤ 40000)) }
         ensures cut { IfOk result (λ n. is_market (view self.now).period.stage ≡ false → n.0 ≤ imbalance (view self.now).lines) }
     {
         let kind = self.participants.kind(row)?;
         match self.period.stage {
-            Stage::Market => self.market_taken(lots),
+            Stage::Market => {
+                check_lots(lots, C::largest_tender())?;
+                Ok(lots)
+            }
             _ => self.supplementary_taken(kind, side, lots),
         }
     }
@@ -133,8 +113,11 @@ impl<C: QuotedContract, P> Session<C, P> {
         ensures some { IfOk result (λ t. (1 ≤ t.lots.0) × (t.lots.0 ≤ lots.0)) }
         ensures cut { IfOk result (λ t. is_market (view self.old).period.stage ≡ false → t.lots.0 ≤ imbalance (view self.old).lines) }
     {
-        let time = self.check_tender(time)?;
+        let open = matches!(self.period.stage, Stage::Market | Stage::Supplementary);
+        let time = self.period.admit(open, time)?;
+        check_in_time(self.period.ends, time.ms)?;
         let taken = self.lots_taken(row, side, lots)?;
+        self.check_room()?;
         book.freeze(row, margin_of::<C>(taken, self.period.price))?;
         Ok(self.enter(time, row, side, taken))
     }
