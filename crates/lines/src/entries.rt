@@ -2,7 +2,7 @@
 
 ghost use Rattle.std.specs.Prelude.{◌≡◌, ◌<◌, ◌≤◌, true, [], ◌∷◌, ◌++◌, map, length, IfSome, IfOk, if◌then◌else◌, Some, None, vec_len, vec_capacity, OnOk, slice_index_or, slice_set};
 ghost use Rattle.rounds.specs.Memory.{Refuses};
-ghost use Rattle.lines.specs.Entries.{lines_of, limit_of, width_of, limit_fits, used_up, holds, line_at};
+ghost use Rattle.lines.specs.Entries.{lines_of, limit_of, width_of, SameRoom, limit_fits, used_up, holds, line_at};
 ghost use Rattle.lines.specs.Lines.{lawful_line, struck, no_line, reduced, imbalance, excess};
 ghost use Rattle.participants.specs.Rosters.{rows_of};
 
@@ -86,8 +86,7 @@ impl LineTable {
         requires room { vec_len self.old.lines < self.old.limit }
         requires sound { lawful_line self.old.rows line ≡ true }
         ensures lines { lines_of self.new ≡ lines_of self.old ++ line ∷ [] }
-        ensures limit { limit_of self.new ≡ limit_of self.old }
-        ensures rows { width_of self.new ≡ width_of self.old }
+        ensures room { SameRoom self.old self.new }
     {
         self.buys = Lots(self.buys.0 + line.lots_on(Side::Buy).0);
         self.sells = Lots(self.sells.0 + line.lots_on(Side::Sell).0);
@@ -98,8 +97,7 @@ impl LineTable {
     pub fn enter(&mut self, line: Line) -> Option<u32>
         ensures number { result ≡ (if holds self.old line then Some (length (lines_of self.old)) else None) }
         ensures lines { lines_of self.new ≡ (if holds self.old line then lines_of self.old ++ line ∷ [] else lines_of self.old) }
-        ensures limit { limit_of self.new ≡ limit_of self.old }
-        ensures rows { width_of self.new ≡ width_of self.old }
+        ensures room { SameRoom self.old self.new }
     {
         if self.is_used_up() || !self.bears(&line) {
             return None;
@@ -121,8 +119,7 @@ impl LineTable {
     fn take_off(&mut self, line: usize, lots: Lots)
         requires { line < vec_len self.old.lines }
         ensures lines { lines_of self.new ≡ slice_set (lines_of self.old) line (reduced (slice_index_or (lines_of self.old) line no_line) lots.0) }
-        ensures limit { limit_of self.new ≡ limit_of self.old }
-        ensures rows { width_of self.new ≡ width_of self.old }
+        ensures room { SameRoom self.old self.new }
     {
         let old = self.lines[line];
         let new = old.less(lots);
@@ -134,8 +131,7 @@ impl LineTable {
     /// Takes lots off a line, as many as it has; one that was not made has none.
     pub fn reduce(&mut self, line: u32, lots: Lots)
         ensures lines { lines_of self.new ≡ slice_set (lines_of self.old) line (reduced (slice_index_or (lines_of self.old) line no_line) lots.0) }
-        ensures limit { limit_of self.new ≡ limit_of self.old }
-        ensures rows { width_of self.new ≡ width_of self.old }
+        ensures room { SameRoom self.old self.new }
     {
         if (line as usize) < self.lines.len() {
             self.take_off(line as usize, lots);

@@ -5,7 +5,7 @@ ghost use Rattle.books.specs.Accounts.{released_at};
 ghost use Rattle.rounds.specs.Sides.{hits};
 ghost use Rattle.rounds.specs.declared.sides.Side.{Side};
 ghost use Rattle.sharing.specs.Shares.{below};
-ghost use Rattle.lines.specs.Entries.{lines_of, limit_of, width_of};
+ghost use Rattle.lines.specs.Entries.{lines_of, width_of, SameRoom};
 ghost use Rattle.lines.specs.Lines.{lawful, line_due, due_to, struck, standing};
 ghost use Rattle.lines.specs.Striking.{due_in, covers, covers_all, released_all, strike_check, struck_accounts, struck_margin};
 
@@ -134,8 +134,7 @@ impl LineTable {
     /// Sets the lots of the struck lines to none, and with them those of their side.
     fn clear(&mut self, which: Struck)
         ensures lines { lines_of self.new ≡ map (struck which) (lines_of self.old) }
-        ensures limit { limit_of self.new ≡ limit_of self.old }
-        ensures rows { width_of self.new ≡ width_of self.old }
+        ensures room { SameRoom self.old self.new }
     {
         strike_lines(&mut self.lines, which);
         self.buys = which.leaves(Side::Buy, self.buys);
@@ -154,8 +153,7 @@ impl LineTable {
         ensures lines { OnOk result (lines_of self.new ≡ map (struck which) (lines_of self.old)) }
         ensures accounts { OnOk result (B.means book.new ≡ struck_accounts C.margin (width_of self.old) (lines_of self.old) (B.means book.old) which) }
         ensures kept { OnErr result ((lines_of self.new ≡ lines_of self.old) × (B.means book.new ≡ B.means book.old)) }
-        ensures limit { limit_of self.new ≡ limit_of self.old }
-        ensures rows { width_of self.new ≡ width_of self.old }
+        ensures room { SameRoom self.old self.new }
         ensures none { OnOk result ((side : Side) → hits which side ≡ true → standing side (lines_of self.new) ≡ 0) }
         ensures rest { OnOk result ((side : Side) → hits which side ≡ false → standing side (lines_of self.new) ≡ standing side (lines_of self.old)) }
         ensures whole { below (width_of self.old) (due_to C.margin which (lines_of self.old)) ≡ struck_margin C.margin (lines_of self.old) which }
