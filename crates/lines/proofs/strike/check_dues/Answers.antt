@@ -6,11 +6,6 @@ use Rattle.lines.specs.Striking.{covers}
 use Rattle.lines.proofs.Releases.{covers_more, covers-stop}
 use Rattle.lines.proofs.strike.check_dues.Goals as goal
 
-pub loop-row-preserved : goal.loop-row-preserved
-loop-row-preserved g c =
-    let m : Accounts = g.B.MarginBook.means c.args.book.now in
-    covers_more m (due_in c.args.dues.now) c.loop-row.row c.loop-row.invariant (sym c.in_ok-check_due.ensures)
-
 pub returns-in_err-check_due : goal.returns-in_err-check_due
 returns-in_err-check_due g c =
     let p = err_from_is_err_and c.from_residual.result c.from_residual.ensures.1 in

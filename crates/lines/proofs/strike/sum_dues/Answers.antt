@@ -27,17 +27,5 @@ overflow_add-dues g c =
 pub bounds-dues-row-in-loop-line : goal.bounds-dues-row-in-loop-line
 bounds-dues-row-in-loop-line g c = omega (arith, row_at 256 c.args.lines.now c.loop-line.line-index no_line c.requires.sound (omega arith))
 
-pub loop-line-preserved : goal.loop-line-preserved
-loop-line-preserved g c =
-    let l : Line = get_or c.args.lines.now c.loop-line.line-index no_line in
-    let w : l.row < length c.loop-line.dues = omega (arith, row_at 256 c.args.lines.now c.loop-line.line-index no_line c.requires.sound (omega arith)) in (
-      simp length-set c.loop-line.invariant.0,
-      λ k b. row_more (λ (f : Fen). f.0) no_fen (line_due g.C.QuotedContract.margin c.args.which) c.args.lines.now c.loop-line.line-index no_line c.loop-line.dues (record { 0 = due_in c.loop-line.dues l.row + c.due-due.result.0 })
-          (omega arith) w (ap (λ n. due_in c.loop-line.dues l.row + n) c.due-due.ensures) c.loop-line.invariant.1 k b,
-    )
-
 pub loop-line-init : goal.loop-line-init
 loop-line-init g c = (refl, λ k h. ap (λ (f : Fen). f.0) (get_or-replicate 256 k no_fen no_fen h))
-
-pub returns : goal.returns
-returns g c = λ k h. c.loop-line.invariant.1 k (omega (arith, c.loop-line.invariant.0)) ∙ ap (λ (ls : List Line). due_to g.C.QuotedContract.margin c.args.which ls k) (take_all c.loop-line.line-index c.args.lines.now (omega arith))

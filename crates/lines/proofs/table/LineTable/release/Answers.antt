@@ -13,29 +13,21 @@ use Rattle.lines.proofs.table.LineTable.release.Goals as goal
 pub sum_dues-sums-requires : goal.sum_dues-sums-requires
 sum_dues-sums-requires g c = search (rules, lawful-wider)
 
-pub returns : goal.returns
-returns g c =
+pub returns-clause-answer : goal.returns-clause-answer
+returns-clause-answer g c =
     let m : Accounts = g.B.MarginBook.means c.args.book.now in
     let due : ℕ → ℕ = due_to g.C.QuotedContract.margin c.args.which (vec_items c.args.self.now.lines) in
     let n : ℕ = c.args.self.now.rows in
     let sums : List Fen = c.sum_dues-sums.result in
     let same : (k : ℕ) → k < n → due_in sums k ≡ due k = λ k h. c.sum_dues-sums.ensures k (omega arith) ∙ ap (λ (ls : List Line). due_to g.C.QuotedContract.margin c.args.which ls k) c.as_slice.ensures.value in
-    record {
-      answer = c.in_ok-check_dues.ensures ∙ covers-first m sums due n (omega arith) same;
-      after = c.release_dues.ensures ∙ released-first m sums due n (omega arith) same;
-      kept = tt;
-    }
+    c.in_ok-check_dues.ensures ∙ covers-first m sums due n (omega arith) same
 
-pub returns-in_err-check_dues : goal.returns-in_err-check_dues
-returns-in_err-check_dues g c =
+pub returns-in_err-check_dues-clause-answer : goal.returns-in_err-check_dues-clause-answer
+returns-in_err-check_dues-clause-answer g c =
     let m : Accounts = g.B.MarginBook.means c.args.book.now in
     let due : ℕ → ℕ = due_to g.C.QuotedContract.margin c.args.which (vec_items c.args.self.now.lines) in
     let n : ℕ = c.args.self.now.rows in
     let sums : List Fen = c.sum_dues-sums.result in
     let same : (k : ℕ) → k < n → due_in sums k ≡ due k = λ k h. c.sum_dues-sums.ensures k (omega arith) ∙ ap (λ (ls : List Line). due_to g.C.QuotedContract.margin c.args.which ls k) c.as_slice.ensures.value in
     let p = err_from_is_err_and c.from_residual.result c.from_residual.ensures.1 in
-    record {
-      answer = p.1 ∙ ap Err p.2 ∙ (c.in_err-check_dues.ensures ∙ covers-first m sums due n (omega arith) same);
-      after = made-not c.from_residual.result p.0 _ p.1;
-      kept = refused_all c.from_residual.result _ (λ y. refl);
-    }
+    p.1 ∙ ap Err p.2 ∙ (c.in_err-check_dues.ensures ∙ covers-first m sums due n (omega arith) same)
