@@ -114,6 +114,13 @@ fn strike_lines(lines: &mut Vec<Line>, which: Struck)
 }
 
 impl LineTable {
+    /// What striking releases to each row.
+    fn dues<C: QuotedContract>(&self, which: Struck) -> [Fen; MOST_ROWS]
+        ensures { (k : ℕ) → k < width_of self.now → due_in result k ≡ due_to C.margin which (lines_of self.now) k }
+    {
+        sum_dues::<C>(self.lines.as_slice(), which)
+    }
+
     /// Releases what striking releases, after the book was asked for all of it, rows in order.
     fn release<C: QuotedContract, B: MarginBook>(
         &self,
@@ -124,7 +131,7 @@ impl LineTable {
         ensures after { OnOk result (B.means book.new ≡ struck_accounts C.margin (width_of self.now) (lines_of self.now) (B.means book.old) which) }
         ensures kept { OnErr result (B.means book.new ≡ B.means book.old) }
     {
-        let sums = sum_dues::<C>(self.lines.as_slice(), which);
+        let sums = self.dues::<C>(which);
         let dues = &sums[..self.rows];
         check_dues(book, dues)?;
         release_dues(book, dues);
