@@ -22,36 +22,9 @@ covers-stop m due k (suc n) e lt h f =
     (λ (p : (eqb k n ≡ false) × (k ≡ n → ⊥)). let q = p.1 in let l : k < n = omega arith in next-err (covers_all m due n) _ e (covers-stop m due k n e l h f))
     (eqb_tells k n)
 
-released-at : (m : Accounts) (due : ℕ → ℕ) (k a : ℕ) → released_at (released_all m due k) k (due k) a ≡ released_all m due (k + 1) a
-released-at m due k a = grind (arith, nat_tests)
-
-pub released-more : (m : Accounts) (due : ℕ → ℕ) (k : ℕ) → released_at (released_all m due k) k (due k) ≡ released_all m due (k + 1)
-released-more m due k = fun_ext (released-at m due k)
-
-pub released-none : (m : Accounts) (due : ℕ → ℕ) → m ≡ released_all m due 0
-released-none m due = fun_ext (λ a. grind (arith, nat_tests))
-
 release-none : (o : Option Balance) → released_of o 0 ≡ o
 release-none None = refl
 release-none (Some b) = grind (arith, nat_tests)
-
-pub released-nothing : (m : Accounts) (k : ℕ) → m ≡ released_at m k 0
-released-nothing m k = fun_ext (λ a. elim (eqb a k) as (λ b. m a ≡ cond b (released_of (m a) 0) (m a)) [ true ↦ sym (release-none (m a)) | false ↦ refl ])
-
-next-ok : (r s : Result (Unit {0}) BookFault) → next r s ≡ Ok tt → (r ≡ Ok tt) × (s ≡ Ok tt)
-next-ok (Ok u) s h = (refl, h)
-next-ok (Err e) s h = absurd (let z : ◌≡◌ {A = ℕ} 0 1 = cc in omega arith)
-
-pub covers_at : (m : Accounts) (due : ℕ → ℕ) (k n : ℕ) → k < n → covers_all m due n ≡ Ok tt → covers (m k) (due k) ≡ Ok tt
-covers_at m due k zero lt h = absurd (omega arith)
-covers_at m due k (suc n) lt h = let p = next-ok (covers_all m due n) (covers (m n) (due n)) h in
-    ⊎_elim
-    (λ (q : (eqb k n ≡ true) × (k ≡ n)). let P : ℕ → Type 0 = λ j. covers (m j) (due j) ≡ Ok tt in subst P (sym q.1) p.1)
-    (λ (q : (eqb k n ≡ false) × (k ≡ n → ⊥)). let r = q.1 in let l : k < n = omega arith in covers_at m due k n l p.0)
-    (eqb_tells k n)
-
-pub untouched : (m : Accounts) (due : ℕ → ℕ) (k : ℕ) → released_all m due k k ≡ m k
-untouched m due k = grind (arith, nat_tests)
 
 -- dues that are the same below n cover and release the same
 covers-same : (m : Accounts) (f g : ℕ → ℕ) (n : ℕ) → ((k : ℕ) → k < n → f k ≡ g k) → covers_all m f n ≡ covers_all m g n

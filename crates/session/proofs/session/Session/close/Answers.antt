@@ -3,6 +3,3 @@ use Rattle.session.proofs.session.Session.close.Goals as goal
 
 pub returns-in-Market-stage : goal.returns-in-Market-stage
 returns-in-Market-stage g c = let e = c.close_market.ensures (g.B.MarginBook.means c.args.book.now) in search rules
-
-pub returns-in_default-stage : goal.returns-in_default-stage
-returns-in_default-stage g c = record { outcome = search rules; kept = c.close_supplementary.ensures.kept; moved = c.close_supplementary.ensures.moved }
