@@ -65,7 +65,7 @@ impl<C: QuotedContract, P> Session<C, P> {
         if remaining.0 == 0 {
             return Err(SessionFault::NothingRemains);
         }
-        self.room_for(lots.least(remaining))
+        self.room_for(lots.min(remaining))
     }
 
     fn supplementary_taken(&self, kind: Kind, side: Side, lots: Lots) -> Result<Lots, SessionFault>
