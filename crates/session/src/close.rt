@@ -53,7 +53,7 @@ impl<C: FixingContract, P: SharingPolicy> Session<C, P> {
     /// The move for the imbalance that remains: of a tick or more where that is above the threshold.
     fn next_move(&self) -> Move
         ensures value { result ≡ close_move C.FixingContract.step (view self.now) }
-        ensures some { C.FixingContract.threshold < imbalance (view self.now).lines → 1 ≤ result.size.0 }
+        ensures some { C.FixingContract.THRESHOLD.0 < imbalance (view self.now).lines → 1 ≤ result.size.0 }
     {
         let step = C::step_at(self.table.imbalance());
         Move::after(self.period.last, self.table.excess().moves_up(), step)
@@ -88,8 +88,8 @@ impl<C: FixingContract, P: SharingPolicy> Session<C, P> {
     ) -> Result<Standing, SessionFault>
         requires hour { time ≤ 86399999 }
         requires offered { 1 ≤ self.old.period.price.0 }
-        requires beyond { C.FixingContract.threshold < imbalance (view self.old).lines }
-        ensures outcome { came result (view self.new) (B.MarginBook.means book.new) ≡ move_outcome C.QuotedContract.margin (view self.old) (B.MarginBook.means book.old) time (close_move C.FixingContract.step (view self.old)) (moved_price self.old.period.price.0 (close_move C.FixingContract.step (view self.old))) }
+        requires beyond { C.FixingContract.THRESHOLD.0 < imbalance (view self.old).lines }
+        ensures outcome { came result (view self.new) (B.MarginBook.means book.new) ≡ move_outcome C.QuotedContract.MARGIN.0 (view self.old) (B.MarginBook.means book.old) time (close_move C.FixingContract.step (view self.old)) (moved_price self.old.period.price.0 (close_move C.FixingContract.step (view self.old))) }
         ensures kept { OnErr result ((view self.new ≡ view self.old) × (B.MarginBook.means book.new ≡ B.MarginBook.means book.old)) }
         ensures moved { IfOk result (λ s. is_market s.stage ≡ true → Beyond (up_for (excess (view self.old).lines)) self.old.period.price.0 s.price.0) }
     {
@@ -118,11 +118,11 @@ impl<C: FixingContract, P: SharingPolicy> Session<C, P> {
     ) -> Result<Standing, SessionFault>
         requires hour { time ≤ 86399999 }
         requires offered { 1 ≤ self.old.period.price.0 }
-        ensures outcome { came result (view self.new) (B.MarginBook.means book.new) ≡ supplementary_outcome C.QuotedContract.margin C.FixingContract.threshold C.FixingContract.step P.SharingPolicy.share P.SharingPolicy.told (view self.old) (B.MarginBook.means book.old) time }
+        ensures outcome { came result (view self.new) (B.MarginBook.means book.new) ≡ supplementary_outcome C.QuotedContract.MARGIN.0 C.FixingContract.THRESHOLD.0 C.FixingContract.step P.SharingPolicy.share P.SharingPolicy.told (view self.old) (B.MarginBook.means book.old) time }
         ensures kept { OnErr result ((view self.new ≡ view self.old) × (B.MarginBook.means book.new ≡ B.MarginBook.means book.old)) }
         ensures moved { IfOk result (λ s. is_market s.stage ≡ true → Beyond (up_for (excess (view self.old).lines)) self.old.period.price.0 s.price.0) }
     {
-        if self.table.imbalance().0 <= C::threshold_lots().0 {
+        if self.table.imbalance().0 <= C::THRESHOLD.0 {
             return Ok(self.fix(time));
         }
         self.move_price(book, time)
@@ -135,7 +135,7 @@ impl<C: FixingContract, P: SharingPolicy> Session<C, P> {
         book: &mut B,
         time: u32,
     ) -> Result<Standing, SessionFault>
-        ensures outcome { came result (view self.new) (B.MarginBook.means book.new) ≡ close_outcome C.QuotedContract.margin C.FixingContract.threshold C.FixingContract.step P.SharingPolicy.share P.SharingPolicy.told (view self.old) (B.MarginBook.means book.old) time }
+        ensures outcome { came result (view self.new) (B.MarginBook.means book.new) ≡ close_outcome C.QuotedContract.MARGIN.0 C.FixingContract.THRESHOLD.0 C.FixingContract.step P.SharingPolicy.share P.SharingPolicy.told (view self.old) (B.MarginBook.means book.old) time }
         ensures kept { OnErr result ((view self.new ≡ view self.old) × (B.MarginBook.means book.new ≡ B.MarginBook.means book.old)) }
         ensures moved { IfOk result (λ s. is_market s.stage ≡ true → Beyond (up_for (excess (view self.old).lines)) self.old.period.price.0 s.price.0) }
     {

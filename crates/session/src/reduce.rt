@@ -37,14 +37,14 @@ impl<C: QuotedContract, P> Session<C, P> {
     }
 
     fn reducible(&self, time: u32, row: u32, line: u32, lots: Lots) -> Result<Line, SessionFault>
-        ensures answer { result ≡ reducible C.QuotedContract.largest (view self.now) time row line lots.0 }
+        ensures answer { result ≡ reducible C.QuotedContract.LARGEST.0 (view self.now) time row line lots.0 }
         ensures within { OnOk result ((time ≤ 86399999) × (lots.0 ≤ 40000)) }
         ensures price { IfOk result (λ l. l.price.0 ≤ 10000000) }
     {
         self.period.admit(self.period.stage == Stage::Market, time)?;
         check_in_time(self.period.ends, time)?;
         self.participants.kind(row)?;
-        check_lots(lots, C::largest_tender())?;
+        check_lots(lots, C::LARGEST)?;
         self.own_line(row, line, lots)
     }
 
@@ -57,7 +57,7 @@ impl<C: QuotedContract, P> Session<C, P> {
         line: u32,
         lots: Lots,
     ) -> Result<Standing, SessionFault>
-        ensures outcome { came result (view self.new) (B.MarginBook.means book.new) ≡ reduce_outcome C.QuotedContract.margin C.QuotedContract.largest (view self.old) (B.MarginBook.means book.old) time row line lots.0 }
+        ensures outcome { came result (view self.new) (B.MarginBook.means book.new) ≡ reduce_outcome C.QuotedContract.MARGIN.0 C.QuotedContract.LARGEST.0 (view self.old) (B.MarginBook.means book.old) time row line lots.0 }
         ensures kept { OnErr result ((view self.new ≡ view self.old) × (B.MarginBook.means book.new ≡ B.MarginBook.means book.old)) }
     {
         let tendered = self.reducible(time, row, line, lots)?;

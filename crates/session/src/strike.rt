@@ -30,7 +30,7 @@ impl<C: QuotedContract, P> Session<C, P> {
         requires hour { period.clock ≤ 86399999 }
         requires ends { period.ends ≤ 86700000 }
         requires moved { of_ticks period.last ≡ true }
-        ensures outcome { came result (view self.new) (B.MarginBook.means book.new) ≡ strike_into C.QuotedContract.margin (view self.old) (B.MarginBook.means book.old) which period }
+        ensures outcome { came result (view self.new) (B.MarginBook.means book.new) ≡ strike_into C.QuotedContract.MARGIN.0 (view self.old) (B.MarginBook.means book.old) which period }
         ensures kept { OnErr result ((view self.new ≡ view self.old) × (B.MarginBook.means book.new ≡ B.MarginBook.means book.old)) }
         ensures standing { IfOk result (λ s. s ≡ standing_at period) }
     {

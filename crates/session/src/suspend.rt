@@ -70,7 +70,7 @@ impl<C: QuotedContract, P> Session<C, P> {
         time: u32,
         price: Ticks,
     ) -> Result<Standing, SessionFault>
-        ensures outcome { came result (view self.new) (B.MarginBook.means book.new) ≡ reissue_outcome C.QuotedContract.margin (view self.old) (B.MarginBook.means book.old) time price }
+        ensures outcome { came result (view self.new) (B.MarginBook.means book.new) ≡ reissue_outcome C.QuotedContract.MARGIN.0 (view self.old) (B.MarginBook.means book.old) time price }
         ensures kept { OnErr result ((view self.new ≡ view self.old) × (B.MarginBook.means book.new ≡ B.MarginBook.means book.old)) }
     {
         self.check_reissue(time, price)?;
@@ -92,7 +92,7 @@ impl<C: QuotedContract, P> Session<C, P> {
         time: u32,
         price: Ticks,
     ) -> Result<Standing, SessionFault>
-        ensures outcome { came result (view self.new) (B.MarginBook.means book.new) ≡ announce_outcome C.QuotedContract.margin (view self.old) (B.MarginBook.means book.old) time price }
+        ensures outcome { came result (view self.new) (B.MarginBook.means book.new) ≡ announce_outcome C.QuotedContract.MARGIN.0 (view self.old) (B.MarginBook.means book.old) time price }
         ensures kept { OnErr result ((view self.new ≡ view self.old) × (B.MarginBook.means book.new ≡ B.MarginBook.means book.old)) }
     {
         self.check_measure(time, price)?;
@@ -115,7 +115,7 @@ impl SuspensionOrder {
         time: u32,
         price: Ticks,
     ) -> Result<Standing, RefusedMeasure>
-        ensures outcome { came (with_order result) (view session.new) (B.MarginBook.means book.new) ≡ reissue_outcome C.QuotedContract.margin (view session.old) (B.MarginBook.means book.old) time price }
+        ensures outcome { came (with_order result) (view session.new) (B.MarginBook.means book.new) ≡ reissue_outcome C.QuotedContract.MARGIN.0 (view session.old) (B.MarginBook.means book.old) time price }
         ensures kept { OnErr result ((view session.new ≡ view session.old) × (B.MarginBook.means book.new ≡ B.MarginBook.means book.old)) }
         ensures order { IfErr result (λ e. e.order ≡ self) }
     {
@@ -130,7 +130,7 @@ impl SuspensionOrder {
         time: u32,
         price: Ticks,
     ) -> Result<Standing, RefusedMeasure>
-        ensures outcome { came (with_order result) (view session.new) (B.MarginBook.means book.new) ≡ announce_outcome C.QuotedContract.margin (view session.old) (B.MarginBook.means book.old) time price }
+        ensures outcome { came (with_order result) (view session.new) (B.MarginBook.means book.new) ≡ announce_outcome C.QuotedContract.MARGIN.0 (view session.old) (B.MarginBook.means book.old) time price }
         ensures kept { OnErr result ((view session.new ≡ view session.old) × (B.MarginBook.means book.new ≡ B.MarginBook.means book.old)) }
         ensures order { IfErr result (λ e. e.order ≡ self) }
     {

@@ -43,11 +43,11 @@ impl<C: QuotedContract, P> Session<C, P> {
     }
 
     fn market_taken(&self, lots: Lots) -> Result<Lots, SessionFault>
-        ensures answer { result ≡ market_taken C.QuotedContract.largest (view self.now) lots.0 }
+        ensures answer { result ≡ market_taken C.QuotedContract.LARGEST.0 (view self.now) lots.0 }
         ensures room { IfOk result (λ n. (n.0 ≤ 40000) × (length (view self.now).lines < (view self.now).limit)) }
         ensures some { IfOk result (λ n. (1 ≤ n.0) × (n.0 ≤ lots.0)) }
     {
-        check_lots(lots, C::largest_tender())?;
+        check_lots(lots, C::LARGEST)?;
         self.room_for(lots)
     }
 
@@ -69,7 +69,7 @@ impl<C: QuotedContract, P> Session<C, P> {
     }
 
     fn supplementary_taken(&self, kind: Kind, side: Side, lots: Lots) -> Result<Lots, SessionFault>
-        ensures answer { result ≡ supplementary_taken C.QuotedContract.largest (view self.now) kind side lots.0 }
+        ensures answer { result ≡ supplementary_taken C.QuotedContract.LARGEST.0 (view self.now) kind side lots.0 }
         ensures room { IfOk result (λ n. (n.0 ≤ 40000) × (length (view self.now).lines < (view self.now).limit)) }
         ensures some { IfOk result (λ n. (1 ≤ n.0) × (n.0 ≤ lots.0)) }
         ensures cut { IfOk result (λ n. n.0 ≤ imbalance (view self.now).lines) }
@@ -77,12 +77,12 @@ impl<C: QuotedContract, P> Session<C, P> {
         if !kind.is_fixing() {
             return Err(SessionFault::WrongKind);
         }
-        check_lots(lots, C::largest_tender())?;
+        check_lots(lots, C::LARGEST)?;
         self.against_excess(side, lots)
     }
 
     fn lots_taken(&self, time: u32, row: u32, side: Side, lots: Lots) -> Result<Lots, SessionFault>
-        ensures answer { result ≡ lots_taken C.QuotedContract.largest (view self.now) time row side lots.0 }
+        ensures answer { result ≡ lots_taken C.QuotedContract.LARGEST.0 (view self.now) time row side lots.0 }
         ensures within { OnOk result ((time ≤ 86399999) × (row < length (view self.now).rows)) }
         ensures room { IfOk result (λ n. (n.0 ≤ 40000) × (length (view self.now).lines < (view self.now).limit)) }
         ensures some { IfOk result (λ n. (1 ≤ n.0) × (n.0 ≤ lots.0)) }
@@ -126,7 +126,7 @@ impl<C: QuotedContract, P> Session<C, P> {
         side: Side,
         lots: Lots,
     ) -> Result<Tendered, SessionFault>
-        ensures outcome { came result (view self.new) (B.MarginBook.means book.new) ≡ tender_outcome C.QuotedContract.margin C.QuotedContract.largest (view self.old) (B.MarginBook.means book.old) time row side lots.0 }
+        ensures outcome { came result (view self.new) (B.MarginBook.means book.new) ≡ tender_outcome C.QuotedContract.MARGIN.0 C.QuotedContract.LARGEST.0 (view self.old) (B.MarginBook.means book.old) time row side lots.0 }
         ensures kept { OnErr result ((view self.new ≡ view self.old) × (B.MarginBook.means book.new ≡ B.MarginBook.means book.old)) }
         ensures some { IfOk result (λ t. (1 ≤ t.lots.0) × (t.lots.0 ≤ lots.0)) }
         ensures cut { IfOk result (λ t. is_market (view self.old).period.stage ≡ false → t.lots.0 ≤ imbalance (view self.old).lines) }

@@ -15,9 +15,9 @@ sum_dues-dues-requires g c = search (rules, lawful-wider)
 pub returns : goal.returns
 returns g c =
     let m : Accounts = g.B.MarginBook.means c.args.book.now in
-    let due : ℕ → ℕ = due_to g.C.QuotedContract.margin c.args.which (vec_items c.args.self.now.lines) in
+    let due : ℕ → ℕ = due_to g.C.QuotedContract.MARGIN.0 c.args.which (vec_items c.args.self.now.lines) in
     let n : ℕ = c.args.self.now.rows in
-    let same : (k : ℕ) → k < n → due_in c.sum_dues-dues.result k ≡ due k = λ k h. c.sum_dues-dues.ensures k (omega arith) ∙ ap (λ (ls : List Line). due_to g.C.QuotedContract.margin c.args.which ls k) c.as_slice.ensures.value in
+    let same : (k : ℕ) → k < n → due_in c.sum_dues-dues.result k ≡ due k = λ k h. c.sum_dues-dues.ensures k (omega arith) ∙ ap (λ (ls : List Line). due_to g.C.QuotedContract.MARGIN.0 c.args.which ls k) c.as_slice.ensures.value in
     record {
       answer = c.in_ok-check_dues.ensures ∙ covers-same m (due_in c.sum_dues-dues.result) due n same;
       after = c.release_dues.ensures ∙ released-same m (due_in c.sum_dues-dues.result) due n same;
@@ -27,9 +27,9 @@ returns g c =
 pub returns-in_err-check_dues : goal.returns-in_err-check_dues
 returns-in_err-check_dues g c =
     let m : Accounts = g.B.MarginBook.means c.args.book.now in
-    let due : ℕ → ℕ = due_to g.C.QuotedContract.margin c.args.which (vec_items c.args.self.now.lines) in
+    let due : ℕ → ℕ = due_to g.C.QuotedContract.MARGIN.0 c.args.which (vec_items c.args.self.now.lines) in
     let n : ℕ = c.args.self.now.rows in
-    let same : (k : ℕ) → k < n → due_in c.sum_dues-dues.result k ≡ due k = λ k h. c.sum_dues-dues.ensures k (omega arith) ∙ ap (λ (ls : List Line). due_to g.C.QuotedContract.margin c.args.which ls k) c.as_slice.ensures.value in
+    let same : (k : ℕ) → k < n → due_in c.sum_dues-dues.result k ≡ due k = λ k h. c.sum_dues-dues.ensures k (omega arith) ∙ ap (λ (ls : List Line). due_to g.C.QuotedContract.MARGIN.0 c.args.which ls k) c.as_slice.ensures.value in
     let p = err_from_is_err_and c.from_residual.result c.from_residual.ensures.1 in
     record {
       answer = p.1 ∙ ap Err p.2 ∙ (c.in_err-check_dues.ensures ∙ covers-same m (due_in c.sum_dues-dues.result) due n same);

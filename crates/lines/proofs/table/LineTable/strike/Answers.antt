@@ -20,7 +20,7 @@ returns g c =
       rows = search rules;
       none = λ side h. ap (standing side) c.clear.ensures.lines ∙ (standing-struck c.args.which side ls ∙ ap (λ (b : Bool). cond b 0 (standing side ls)) h);
       rest = λ side h. ap (standing side) c.clear.ensures.lines ∙ (standing-struck c.args.which side ls ∙ ap (λ (b : Bool). cond b 0 (standing side ls)) h);
-      whole = below_rows c.args.self.now.rows (line_due g.C.QuotedContract.margin c.args.which) ls c.args.self.now.sound;
+      whole = below_rows c.args.self.now.rows (line_due g.C.QuotedContract.MARGIN.0 c.args.which) ls c.args.self.now.sound;
     }
 
 pub returns-in_err-release : goal.returns-in_err-release
@@ -36,5 +36,5 @@ returns-in_err-release g c =
       rows = refl;
       none = made-not c.from_residual.result p.0 _ p.1;
       rest = made-not c.from_residual.result p.0 _ p.1;
-      whole = below_rows c.args.self.now.rows (line_due g.C.QuotedContract.margin c.args.which) (lines_of c.args.self.now) c.args.self.now.sound;
+      whole = below_rows c.args.self.now.rows (line_due g.C.QuotedContract.MARGIN.0 c.args.which) (lines_of c.args.self.now) c.args.self.now.sound;
     }
