@@ -44,3 +44,7 @@ frozen_at m account n a = cond (a == account) (frozen_of (m a) n) (m a)
 
 abbrev pub released_at : Accounts → ℕ → ℕ → Accounts
 released_at m account n a = cond (a == account) (released_of (m a) n) (m a)
+
+-- the accounts with another balance for one of them
+abbrev pub replaced_at : Accounts → ℕ → Option Balance → Accounts
+replaced_at m account b a = cond (a == account) b (m a)
