@@ -1,8 +1,8 @@
 //! What a book stores for one account.
 
-ghost use Rattle.std.specs.Prelude.{◌≡◌, Option, ◌+◌, Some};
+ghost use Rattle.std.specs.Prelude.{◌≡◌, Option, Some};
 ghost use Rattle.books.specs.declared.balance.Balance.{Balance};
-ghost use Rattle.books.specs.Accounts.{Within};
+ghost use Rattle.books.specs.Accounts.{SameSum, Within};
 
 use crate::balance::Balance;
 
@@ -16,7 +16,7 @@ pub trait AccountRecord: Copy {
 
     /// The record that means another balance of the same sum.
     fn holding(self, balance: Balance) -> Self
-        ensures { (b : Balance) → meaning self ≡ Some b → b.free.0 + b.frozen.0 ≡ balance.free.0 + balance.frozen.0 → meaning result ≡ Some balance };
+        ensures { SameSum (meaning self) balance → meaning result ≡ Some balance };
 
     ghost within: { (r : Self) → Within (meaning r) };
 }

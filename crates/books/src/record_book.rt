@@ -1,8 +1,7 @@
 //! The book that stores a record of each account.
 
-ghost use Rattle.std.specs.Prelude.{◌≡◌, ◌+◌, Some};
-ghost use Rattle.books.specs.declared.balance.Balance.{Balance};
-ghost use Rattle.books.specs.Accounts.{replaced_at};
+ghost use Rattle.std.specs.Prelude.{◌≡◌, Some};
+ghost use Rattle.books.specs.Accounts.{SameSum, replaced_at};
 ghost use Rattle.books.specs.Stored.{placed, stored_accounts};
 ghost use Rattle.std.proofs.Common.{rules};
 
@@ -29,7 +28,7 @@ impl<R: AccountRecord> RecordBook<R> {
 
     /// Stores another balance of the same sum for an account.
     fn store(&mut self, account: u32, balance: Balance)
-        requires { (b : Balance) × (stored_accounts R.meaning self.old account ≡ Some b) × (b.free.0 + b.frozen.0 ≡ balance.free.0 + balance.frozen.0) }
+        requires { SameSum (stored_accounts R.meaning self.old account) balance }
         ensures { stored_accounts R.meaning self.new ≡ replaced_at (stored_accounts R.meaning self.old) account (Some balance) }
     {
         let place = account as usize;

@@ -15,6 +15,7 @@ pub trait FixingContract: QuotedContract {
 
     ghost step: { ℕ → ℕ };
 
+    // The match of each contract is its table of steps: the table as data would need a search through it, and is no plainer.
     /// How far the price moves at an imbalance: not at all within the threshold.
     fn step_at(imbalance: Lots) -> Ticks
         ensures { result.0 ≡ step imbalance.0 };
