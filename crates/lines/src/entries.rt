@@ -150,7 +150,7 @@ impl LineTable {
     pub fn excess(&self) -> Side
         ensures { result ≡ excess (lines_of self.now) }
     {
-        if self.buys.0 > self.sells.0 {
+        if self.buys > self.sells {
             Side::Buy
         } else {
             Side::Sell

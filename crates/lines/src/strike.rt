@@ -24,7 +24,7 @@ impl Line {
     fn due<C: QuotedContract>(&self, which: Struck) -> Fen
         requires lots { self.now.lots.0 ≤ 40000 }
         requires price { self.now.price.0 ≤ 10000000 }
-        ensures { result.0 ≡ line_due C.margin which self.now }
+        ensures { result.0 ≡ line_due C.MARGIN.0 which self.now }
     {
         let lots = if which.hits(self.side) {
             self.lots
@@ -46,7 +46,7 @@ impl Line {
 fn sum_dues<C: QuotedContract>(lines: &[Line], which: Struck) -> [Fen; MOST_ROWS]
     requires few { length lines.now ≤ 4096 }
     requires sound { lawful 256 lines.now ≡ true }
-    ensures { (k : ℕ) → k < 256 → due_in result k ≡ due_to C.margin which lines.now k }
+    ensures { (k : ℕ) → k < 256 → due_in result k ≡ due_to C.MARGIN.0 which lines.now k }
 {
     let mut dues = [Fen(0); MOST_ROWS];
     for line in lines {
@@ -116,7 +116,7 @@ fn strike_lines(lines: &mut Vec<Line>, which: Struck)
 impl LineTable {
     /// What striking releases to each row.
     fn dues<C: QuotedContract>(&self, which: Struck) -> [Fen; MOST_ROWS]
-        ensures { (k : ℕ) → k < width_of self.now → due_in result k ≡ due_to C.margin which (lines_of self.now) k }
+        ensures { (k : ℕ) → k < width_of self.now → due_in result k ≡ due_to C.MARGIN.0 which (lines_of self.now) k }
     {
         sum_dues::<C>(self.lines.as_slice(), which)
     }
@@ -127,8 +127,8 @@ impl LineTable {
         book: &mut B,
         which: Struck,
     ) -> Result<(), BookFault>
-        ensures answer { result ≡ strike_check C.margin (width_of self.now) (lines_of self.now) (B.means book.old) which }
-        ensures after { OnOk result (B.means book.new ≡ struck_accounts C.margin (width_of self.now) (lines_of self.now) (B.means book.old) which) }
+        ensures answer { result ≡ strike_check C.MARGIN.0 (width_of self.now) (lines_of self.now) (B.means book.old) which }
+        ensures after { OnOk result (B.means book.new ≡ struck_accounts C.MARGIN.0 (width_of self.now) (lines_of self.now) (B.means book.old) which) }
         ensures kept { OnErr result (B.means book.new ≡ B.means book.old) }
     {
         let sums = self.dues::<C>(which);
@@ -156,14 +156,14 @@ impl LineTable {
         book: &mut B,
         which: Struck,
     ) -> Result<(), BookFault>
-        ensures answer { result ≡ strike_check C.margin (width_of self.old) (lines_of self.old) (B.means book.old) which }
+        ensures answer { result ≡ strike_check C.MARGIN.0 (width_of self.old) (lines_of self.old) (B.means book.old) which }
         ensures lines { OnOk result (lines_of self.new ≡ map (struck which) (lines_of self.old)) }
-        ensures accounts { OnOk result (B.means book.new ≡ struck_accounts C.margin (width_of self.old) (lines_of self.old) (B.means book.old) which) }
+        ensures accounts { OnOk result (B.means book.new ≡ struck_accounts C.MARGIN.0 (width_of self.old) (lines_of self.old) (B.means book.old) which) }
         ensures kept { OnErr result ((lines_of self.new ≡ lines_of self.old) × (B.means book.new ≡ B.means book.old)) }
         ensures room { SameRoom self.old self.new }
         ensures none { OnOk result ((side : Side) → hits which side ≡ true → standing side (lines_of self.new) ≡ 0) }
         ensures rest { OnOk result ((side : Side) → hits which side ≡ false → standing side (lines_of self.new) ≡ standing side (lines_of self.old)) }
-        ensures whole { below (width_of self.old) (due_to C.margin which (lines_of self.old)) ≡ struck_margin C.margin (lines_of self.old) which }
+        ensures whole { below (width_of self.old) (due_to C.MARGIN.0 which (lines_of self.old)) ≡ struck_margin C.MARGIN.0 (lines_of self.old) which }
     {
         self.release::<C, B>(book, which)?;
         self.clear(which);

@@ -68,7 +68,7 @@ pub fn check_lots(lots: Lots, largest: Lots) -> Result<(), SessionFault>
     ensures answer { result ≡ lots_fit largest.0 lots.0 }
     ensures within { OnOk result ((1 ≤ lots.0) × (lots.0 ≤ largest.0)) }
 {
-    if lots.0 < 1 || lots.0 > largest.0 {
+    if lots.0 < 1 || lots > largest {
         Err(SessionFault::Amount)
     } else {
         Ok(())

@@ -43,7 +43,7 @@ impl<C: FixingContract, P: SharingPolicy> Session<C, P> {
     /// The move for the imbalance that remains: of a tick or more where that is above the threshold.
     fn next_move(&self) -> Move
         ensures value { result ≡ close_move C.step (view self.now) }
-        ensures some { C.threshold < imbalance (view self.now).lines → 1 ≤ result.size.0 }
+        ensures some { C.THRESHOLD.0 < imbalance (view self.now).lines → 1 ≤ result.size.0 }
     {
         let step = C::step_at(self.table.imbalance());
         Move::after(self.period.last, self.table.excess().moves_up(), step)
@@ -76,8 +76,8 @@ impl<C: FixingContract, P: SharingPolicy> Session<C, P> {
         time: TimeOfDay,
     ) -> Result<Standing, SessionFault>
         requires offered { 1 ≤ self.old.period.price.0 }
-        requires beyond { C.threshold < imbalance (view self.old).lines }
-        ensures outcome { came result (view self.new) (B.means book.new) ≡ move_outcome C.margin (view self.old) (B.means book.old) time.ms (close_move C.step (view self.old)) (moved_price self.old.period.price.0 (close_move C.step (view self.old))) }
+        requires beyond { C.THRESHOLD.0 < imbalance (view self.old).lines }
+        ensures outcome { came result (view self.new) (B.means book.new) ≡ move_outcome C.MARGIN.0 (view self.old) (B.means book.old) time.ms (close_move C.step (view self.old)) (moved_price self.old.period.price.0 (close_move C.step (view self.old))) }
         ensures kept { OnErr result ((view self.new ≡ view self.old) × (B.means book.new ≡ B.means book.old)) }
         ensures moved { IfOk result (λ s. is_market s.stage ≡ true → Beyond (up_for (excess (view self.old).lines)) self.old.period.price.0 s.price.0) }
     {
@@ -105,11 +105,11 @@ impl<C: FixingContract, P: SharingPolicy> Session<C, P> {
         time: TimeOfDay,
     ) -> Result<Standing, SessionFault>
         requires { 1 ≤ self.old.period.price.0 }
-        ensures outcome { came result (view self.new) (B.means book.new) ≡ supplementary_outcome C.margin C.threshold C.step P.share P.told (view self.old) (B.means book.old) time.ms }
+        ensures outcome { came result (view self.new) (B.means book.new) ≡ supplementary_outcome C.MARGIN.0 C.THRESHOLD.0 C.step P.share P.told (view self.old) (B.means book.old) time.ms }
         ensures kept { OnErr result ((view self.new ≡ view self.old) × (B.means book.new ≡ B.means book.old)) }
         ensures moved { IfOk result (λ s. is_market s.stage ≡ true → Beyond (up_for (excess (view self.old).lines)) self.old.period.price.0 s.price.0) }
     {
-        if self.table.imbalance().0 <= C::threshold_lots().0 {
+        if self.table.imbalance() <= C::THRESHOLD {
             return Ok(self.fix(time));
         }
         self.move_price(book, time)
@@ -122,7 +122,7 @@ impl<C: FixingContract, P: SharingPolicy> Session<C, P> {
         book: &mut B,
         time: u32,
     ) -> Result<Standing, SessionFault>
-        ensures outcome { came result (view self.new) (B.means book.new) ≡ close_outcome C.margin C.threshold C.step P.share P.told (view self.old) (B.means book.old) time }
+        ensures outcome { came result (view self.new) (B.means book.new) ≡ close_outcome C.MARGIN.0 C.THRESHOLD.0 C.step P.share P.told (view self.old) (B.means book.old) time }
         ensures kept { OnErr result ((view self.new ≡ view self.old) × (B.means book.new ≡ B.means book.old)) }
         ensures moved { IfOk result (λ s. is_market s.stage ≡ true → Beyond (up_for (excess (view self.old).lines)) self.old.period.price.0 s.price.0) }
     {

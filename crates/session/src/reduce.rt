@@ -28,7 +28,7 @@ impl<C: QuotedContract, P> Session<C, P> {
         if made.round != self.period.round {
             return Err(SessionFault::EarlierRound);
         }
-        if made.lots.0 < lots.0 {
+        if made.lots < lots {
             return Err(SessionFault::FewerLots);
         }
         Ok(made)
@@ -36,12 +36,12 @@ impl<C: QuotedContract, P> Session<C, P> {
 
     /// The line that a row's lots come off, while they can.
     fn reducible(&self, row: u32, line: u32, lots: Lots) -> Result<Line, SessionFault>
-        ensures answer { result ≡ row_line C.largest (view self.now) row line lots.0 }
+        ensures answer { result ≡ row_line C.LARGEST.0 (view self.now) row line lots.0 }
         ensures lots { OnOk result (lots.0 ≤ 40000) }
         ensures price { IfOk result (λ l. l.price.0 ≤ 10000000) }
     {
         self.participants.kind(row)?;
-        check_lots(lots, C::largest_tender())?;
+        check_lots(lots, C::LARGEST)?;
         self.own_line(row, line, lots)
     }
 
@@ -54,7 +54,7 @@ impl<C: QuotedContract, P> Session<C, P> {
         line: u32,
         lots: Lots,
     ) -> Result<Standing, SessionFault>
-        ensures outcome { came result (view self.new) (B.means book.new) ≡ reduce_outcome C.margin C.largest (view self.old) (B.means book.old) time row line lots.0 }
+        ensures outcome { came result (view self.new) (B.means book.new) ≡ reduce_outcome C.MARGIN.0 C.LARGEST.0 (view self.old) (B.means book.old) time row line lots.0 }
         ensures kept { OnErr result ((view self.new ≡ view self.old) × (B.means book.new ≡ B.means book.old)) }
     {
         let open = self.period.stage == Stage::Market;

@@ -22,7 +22,7 @@ impl<C: QuotedContract, P> Session<C, P> {
         period: Period,
     ) -> Result<Standing, SessionFault>
         requires { Lawful period }
-        ensures outcome { came result (view self.new) (B.means book.new) ≡ strike_into C.margin (view self.old) (B.means book.old) which period }
+        ensures outcome { came result (view self.new) (B.means book.new) ≡ strike_into C.MARGIN.0 (view self.old) (B.means book.old) which period }
         ensures kept { OnErr result ((view self.new ≡ view self.old) × (B.means book.new ≡ B.means book.old)) }
         ensures standing { IfOk result (λ s. s ≡ standing_at period) }
     {

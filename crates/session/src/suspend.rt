@@ -42,7 +42,7 @@ impl<C: QuotedContract, P> Session<C, P> {
         time: u32,
         price: Ticks,
     ) -> Result<Standing, SessionFault>
-        ensures outcome { came result (view self.new) (B.means book.new) ≡ reissue_outcome C.margin (view self.old) (B.means book.old) time price }
+        ensures outcome { came result (view self.new) (B.means book.new) ≡ reissue_outcome C.MARGIN.0 (view self.old) (B.means book.old) time price }
         ensures kept { OnErr result ((view self.new ≡ view self.old) × (B.means book.new ≡ B.means book.old)) }
     {
         let suspended = self.period.stage == Stage::Suspended;
@@ -69,7 +69,7 @@ impl<C: QuotedContract, P> Session<C, P> {
         time: u32,
         price: Ticks,
     ) -> Result<Standing, SessionFault>
-        ensures outcome { came result (view self.new) (B.means book.new) ≡ announce_outcome C.margin (view self.old) (B.means book.old) time price }
+        ensures outcome { came result (view self.new) (B.means book.new) ≡ announce_outcome C.MARGIN.0 (view self.old) (B.means book.old) time price }
         ensures kept { OnErr result ((view self.new ≡ view self.old) × (B.means book.new ≡ B.means book.old)) }
     {
         let suspended = self.period.stage == Stage::Suspended;
@@ -94,7 +94,7 @@ impl SuspensionOrder {
         time: u32,
         price: Ticks,
     ) -> Result<Standing, RefusedMeasure>
-        ensures outcome { came (with_order result) (view session.new) (B.means book.new) ≡ reissue_outcome C.margin (view session.old) (B.means book.old) time price }
+        ensures outcome { came (with_order result) (view session.new) (B.means book.new) ≡ reissue_outcome C.MARGIN.0 (view session.old) (B.means book.old) time price }
         ensures kept { OnErr result ((view session.new ≡ view session.old) × (B.means book.new ≡ B.means book.old)) }
         ensures order { IfErr result (λ e. e.order ≡ self) }
     {
@@ -109,7 +109,7 @@ impl SuspensionOrder {
         time: u32,
         price: Ticks,
     ) -> Result<Standing, RefusedMeasure>
-        ensures outcome { came (with_order result) (view session.new) (B.means book.new) ≡ announce_outcome C.margin (view session.old) (B.means book.old) time price }
+        ensures outcome { came (with_order result) (view session.new) (B.means book.new) ≡ announce_outcome C.MARGIN.0 (view session.old) (B.means book.old) time price }
         ensures kept { OnErr result ((view session.new ≡ view session.old) × (B.means book.new ≡ B.means book.old)) }
         ensures order { IfErr result (λ e. e.order ≡ self) }
     {

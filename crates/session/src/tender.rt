@@ -45,11 +45,11 @@ impl<C: QuotedContract, P> Session<C, P> {
         if remaining.0 == 0 {
             return Err(SessionFault::NothingRemains);
         }
-        Ok(lots.least(remaining))
+        Ok(lots.min(remaining))
     }
 
     fn supplementary_taken(&self, kind: Kind, side: Side, lots: Lots) -> Result<Lots, SessionFault>
-        ensures answer { result ≡ supplementary_taken C.largest (view self.now) kind side lots.0 }
+        ensures answer { result ≡ supplementary_taken C.LARGEST.0 (view self.now) kind side lots.0 }
         ensures some { IfOk result (λ n. (1 ≤ n.0) × (n.0 ≤ lots.0)) }
         ensures most { OnOk result (lots.0 ≤ 40000) }
         ensures cut { IfOk result (λ n. n.0 ≤ imbalance (view self.now).lines) }
@@ -57,13 +57,13 @@ impl<C: QuotedContract, P> Session<C, P> {
         if !kind.is_fixing() {
             return Err(SessionFault::WrongKind);
         }
-        check_lots(lots, C::largest_tender())?;
+        check_lots(lots, C::LARGEST)?;
         self.against_excess(side, lots)
     }
 
     /// What is taken of a row's tender, while tenders are taken.
     fn lots_taken(&self, row: u32, side: Side, lots: Lots) -> Result<Lots, SessionFault>
-        ensures answer { result ≡ row_taken C.largest (view self.now) row side lots.0 }
+        ensures answer { result ≡ row_taken C.LARGEST.0 (view self.now) row side lots.0 }
         ensures row { OnOk result (row < length (view self.now).rows) }
         ensures some { IfOk result (λ n. (1 ≤ n.0) × (n.0 ≤ lots.0) × (n.0 ≤ 40000)) }
         ensures cut { IfOk result (λ n. is_market (view self.now).period.stage ≡ false → n.0 ≤ imbalance (view self.now).lines) }
@@ -71,7 +71,7 @@ impl<C: QuotedContract, P> Session<C, P> {
         let kind = self.participants.kind(row)?;
         match self.period.stage {
             Stage::Market => {
-                check_lots(lots, C::largest_tender())?;
+                check_lots(lots, C::LARGEST)?;
                 Ok(lots)
             }
             _ => self.supplementary_taken(kind, side, lots),
@@ -108,7 +108,7 @@ impl<C: QuotedContract, P> Session<C, P> {
         side: Side,
         lots: Lots,
     ) -> Result<Tendered, SessionFault>
-        ensures outcome { came result (view self.new) (B.means book.new) ≡ tender_outcome C.margin C.largest (view self.old) (B.means book.old) time row side lots.0 }
+        ensures outcome { came result (view self.new) (B.means book.new) ≡ tender_outcome C.MARGIN.0 C.LARGEST.0 (view self.old) (B.means book.old) time row side lots.0 }
         ensures kept { OnErr result ((view self.new ≡ view self.old) × (B.means book.new ≡ B.means book.old)) }
         ensures some { IfOk result (λ t. (1 ≤ t.lots.0) × (t.lots.0 ≤ lots.0)) }
         ensures cut { IfOk result (λ t. is_market (view self.old).period.stage ≡ false → t.lots.0 ≤ imbalance (view self.old).lines) }

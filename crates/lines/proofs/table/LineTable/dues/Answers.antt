@@ -8,4 +8,4 @@ pub sum_dues-requires : goal.sum_dues-requires
 sum_dues-requires g c = search (rules, lawful-wider)
 
 pub returns : goal.returns
-returns g c = λ k h. c.sum_dues.ensures k (omega arith) ∙ ap (λ (ls : List Line). due_to g.C.QuotedContract.margin c.args.which ls k) c.as_slice.ensures.value
+returns g c = λ k h. c.sum_dues.ensures k (omega arith) ∙ ap (λ (ls : List Line). due_to g.C.QuotedContract.MARGIN.0 c.args.which ls k) c.as_slice.ensures.value

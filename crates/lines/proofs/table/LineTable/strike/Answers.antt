@@ -13,7 +13,7 @@ pub returns-clause-rest : goal.returns-clause-rest
 returns-clause-rest g c = let ls : List Line = lines_of c.args.self.now in λ side h. ap (standing side) c.clear.ensures.lines ∙ (standing-struck c.args.which side ls ∙ ap (λ (b : Bool). cond b 0 (standing side ls)) h)
 
 pub returns-clause-whole : goal.returns-clause-whole
-returns-clause-whole g c = below_rows c.args.self.now.rows (line_due g.C.QuotedContract.margin c.args.which) (lines_of c.args.self.now) c.args.self.now.sound
+returns-clause-whole g c = below_rows c.args.self.now.rows (line_due g.C.QuotedContract.MARGIN.0 c.args.which) (lines_of c.args.self.now) c.args.self.now.sound
 
 pub returns-in_err-release-clause-whole : goal.returns-in_err-release-clause-whole
-returns-in_err-release-clause-whole g c = below_rows c.args.self.now.rows (line_due g.C.QuotedContract.margin c.args.which) (lines_of c.args.self.now) c.args.self.now.sound
+returns-in_err-release-clause-whole g c = below_rows c.args.self.now.rows (line_due g.C.QuotedContract.MARGIN.0 c.args.which) (lines_of c.args.self.now) c.args.self.now.sound
