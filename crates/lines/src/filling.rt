@@ -39,6 +39,7 @@ impl Fill {
 }
 
 /// Gives each line's standing lots to its row, in one pass over the lines.
+// room for the most rows there can be, since a call takes no memory
 fn fill_lines(lines: &[Line]) -> [Fill; MOST_ROWS]
     requires few { length lines.now ≤ 4096 }
     requires sound { lawful 256 lines.now ≡ true }

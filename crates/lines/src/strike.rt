@@ -42,7 +42,8 @@ impl Line {
     }
 }
 
-/// Sums up, in one pass over the lines, what striking releases to each row: room for the most rows there can be.
+/// Sums up, in one pass over the lines, what striking releases to each row.
+// room for the most rows there can be, since a call takes no memory
 fn sum_dues<C: QuotedContract>(lines: &[Line], which: Struck) -> [Fen; MOST_ROWS]
     requires few { length lines.now ≤ 4096 }
     requires sound { lawful 256 lines.now ≡ true }
@@ -61,14 +62,14 @@ fn sum_dues<C: QuotedContract>(lines: &[Line], which: Struck) -> [Fen; MOST_ROWS
 fn check_due<B: MarginBook>(book: &B, account: u32, due: Fen) -> Result<(), BookFault>
     ensures { result ≡ covers (B.means book.now account) due.0 }
 {
-    if due.0 == 0 {
+    if due == Fen(0) {
         return Ok(());
     }
-    match book.balance(account) {
-        Some(balance) if balance.frozen.0 < due.0 => Err(BookFault::Short),
-        Some(_) => Ok(()),
-        None => Err(BookFault::Unknown),
+    let held = book.balance(account).ok_or(BookFault::Unknown)?;
+    if held.frozen < due {
+        return Err(BookFault::Short);
     }
+    Ok(())
 }
 
 /// That the account of each row has enough frozen for what it is due, rows in order.

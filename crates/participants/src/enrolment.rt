@@ -58,6 +58,7 @@ fn check_participant<R: Roster>(roster: &R, row: usize) -> Result<(), SessionFau
 fn check_rows<R: Roster>(roster: &R) -> Result<(), SessionFault>
     ensures { result ≡ rows_fit (R.listed roster.now) (length (R.listed roster.now)) }
 {
+    // by number: the refusal names the row
     for row in 0..roster.rows() {
         check_participant(roster, row)?;
     }
@@ -86,6 +87,7 @@ fn head_count<R: Roster>(roster: &R) -> HeadCount
 {
     let mut members = 0;
     let mut seats = 0;
+    // by number: whether a row is well carried depends on another row
     for row in 0..roster.rows() {
         let kind = participant_at(roster, row).kind;
         members += kind.is_fixing() as u32;
@@ -117,6 +119,7 @@ fn copy_rows<R: Roster>(heap: Global, roster: &R) -> Result<Vec<Participant>, Al
     ensures len { IfOk result (λ v. vec_len v ≡ length (R.listed roster.now)) }
 {
     let mut rows = Vec::with_capacity(heap, roster.rows())?;
+    // by number: whether a row is well carried depends on another row
     for row in 0..roster.rows() {
         rows.push(participant_at(roster, row))?;
     }

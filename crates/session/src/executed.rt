@@ -14,6 +14,7 @@ pub(crate) fn check_prices<L: PriceList>(executed: &L) -> Result<(), SessionFaul
     ensures answer { result ≡ prices_fit 0 (L.prices executed.now) }
     ensures priced { OnOk result (Prices (L.prices executed.now)) }
 {
+    // by place: the refusal names it
     for place in 0..executed.count() {
         check_price(executed.price(place), place)?;
     }
@@ -29,6 +30,7 @@ pub(crate) fn executed_mean<L: PriceList>(executed: &L) -> Ticks
     ensures within { (1 ≤ result.0) × (result.0 ≤ 10000000) }
 {
     let mut sum: u64 = 0;
+    // by place: the prices may lie in words, which are not copied into a list of prices
     for place in 0..executed.count() {
         sum += executed.price(place).0 as u64;
     }

@@ -22,6 +22,7 @@ pub struct Session<C, P> {
     pub(crate) quotes: Quotes,
     pub(crate) table: LineTable,
     /// What the fix gave each row; nothing before it.
+    // room for the most rows there can be: a fix replaces it whole and takes no memory
     pub(crate) fills: [Fill; MOST_ROWS],
     pub(crate) period: Period,
     pub(crate) policy: P,
