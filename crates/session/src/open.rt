@@ -88,6 +88,7 @@ fn quoting_ends(time: TimeOfDay) -> u32
 
 impl<C, P> Session<C, P> {
     /// Opens a session with room for `limit` lines; the excess of its fix is shared by `policy`.
+    // the figures stay apart: of one record that lends the roster each clause would say which moment it means
     pub fn open<R: Roster>(
         heap: Global,
         time: u32,
