@@ -21,7 +21,7 @@ abbrev pub cash_means : List Balance → Accounts
 cash_means = placed known
 
 abbrev pub cash_accounts : RecordBook Balance → Accounts
-cash_accounts = stored_accounts known
+cash_accounts b = cash_means (vec_items b.accounts)
 
 -- free is the line less what is drawn, frozen is what is drawn; a line above the most, or drawn beyond, is unknown
 abbrev pub credited : BankLine → Option Balance
@@ -31,4 +31,4 @@ abbrev pub line_means : List BankLine → Accounts
 line_means = placed credited
 
 abbrev pub line_accounts : RecordBook BankLine → Accounts
-line_accounts = stored_accounts credited
+line_accounts b = line_means (vec_items b.accounts)

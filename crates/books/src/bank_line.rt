@@ -1,9 +1,11 @@
 //! A book that stores a bank's line for each account, and what is drawn on it.
 
-ghost use Rattle.books.specs.Stored.{credited};
+ghost use Rattle.std.specs.Prelude.{◌≡◌};
+ghost use Rattle.books.specs.Stored.{line_accounts, credited};
 ghost use Rattle.std.proofs.Common.{rules};
 
 use crate::balance::{Balance, MOST_HELD};
+use crate::book::MarginBook;
 use crate::record::AccountRecord;
 use crate::record_book::RecordBook;
 use measures::Fen;
@@ -41,3 +43,8 @@ impl AccountRecord for BankLine {
         }
     }
 }
+
+/// A bank-line book means what each line that it stores leaves free and has drawn.
+pub fn bank_line_book_stands(book: &BankLineBook, account: u32)
+    ensures { ⟦<BankLineBook as MarginBook>⟧.means book.now account ≡ line_accounts book.now account }
+{}

@@ -1,9 +1,11 @@
 //! A book that stores both sums of each account.
 
-ghost use Rattle.books.specs.Stored.{known};
+ghost use Rattle.std.specs.Prelude.{◌≡◌};
+ghost use Rattle.books.specs.Stored.{cash_accounts, known};
 ghost use Rattle.std.proofs.Common.{rules};
 
 use crate::balance::{Balance, MOST_HELD};
+use crate::book::MarginBook;
 use crate::record::AccountRecord;
 use crate::record_book::RecordBook;
 
@@ -27,3 +29,8 @@ impl AccountRecord for Balance {
         balance
     }
 }
+
+/// A cash book means each balance that it stores within the bound.
+pub fn cash_book_stands(book: &CashBook, account: u32)
+    ensures { ⟦<CashBook as MarginBook>⟧.means book.now account ≡ cash_accounts book.now account }
+{}
