@@ -1,6 +1,7 @@
 -- Figures written one by one as the words of a message.
-use Rattle.std.proofs.Common.{◌≡◌, ℕ, suc, ◌+◌, ◌-◌, ◌^◌, ◌<◌, ◌≤◌, Bool, true, false, cond, List, [], ◌∷◌, ◌++◌, length, get_or, take, drop, set, Some, None, Ok, Err, Option, sym, refl, ap, ◌∙◌, arith}
+use Rattle.std.proofs.Common.{◌≡◌, ℕ, zero, suc, ◌+◌, ◌-◌, ◌^◌, ◌<◌, ◌≤◌, Bool, true, false, cond, List, [], ◌∷◌, ◌++◌, length, get_or, take, drop, set, Some, None, Ok, Err, Option, MatchOption, sym, refl, ap, ◌∙◌, arith}
 use Rattle.std.specs.List.{AllByRecursion}
+use Rattle.std.specs.Option.{option_map}
 use Rattle.std.proofs.lemmas.List.{at_drop_more, at_drop_all, drop_more, take_more, take_rest, take-append-drop, length-drop, length-take-le, set_at, append-nil, append_assoc}
 use Rattle.std.proofs.lemmas.Bool.{lt-ltb, le-ltb, cond-true, cond-false, false≢true}
 use Rattle.std.proofs.lemmas.Bool.Decides.{nat_tests}
@@ -87,19 +88,38 @@ module _ {more kinds left : List Kind} {fs : List ℕ} {i : ℕ} {was now : List
       sym (append-nil _) ∙ ap (λ x. take i (stamped more kinds fs) ++ x) (sym none) ∙ take-append-drop i (stamped more kinds fs) in
       rw q (F.front ∙ ap (λ x. x ++ drop i was) all)
 
--- a step of the search for a figure that cannot be written
-module _ (fs : List ℕ) (i : ℕ) (X : Option ℕ) (so_far : first_over i (drop i fs) ≡ X) where
-  over-step : (b : Bool) → i < length fs → b ≡ writable i (get_or fs i 0) → cond b (first_over (i + 1) (drop (i + 1) fs)) (Some i) ≡ X
-  over-step b h q = ap (λ t. cond t (first_over (i + 1) (drop (i + 1) fs)) (Some i)) q ∙ sym (at_drop_more (first_over i) fs i 0 h) ∙ so_far
+-- r is the first of these places, the first of which is s, that cannot be written
+abbrev OverAt : List ℕ → ℕ → Option ℕ → Type 0
+OverAt fs s r =
+    MatchOption r ((k : ℕ) → k < length fs → writable (s + k) (get_or fs k 0) ≡ true)
+    (λ i. (i < length fs) × (writable (s + i) (get_or fs i 0) ≡ false) × ((k : ℕ) → k < i → writable (s + k) (get_or fs k 0) ≡ true))
 
-  pub over-here : i < length fs → false ≡ writable i (get_or fs i 0) → Some i ≡ X
-  over-here h q = over-step false h q
+writable_at : (m n f : ℕ) (b : Bool) → m ≡ n → writable m f ≡ b → writable n f ≡ b
+writable_at m n f b e h = ap (λ k. writable k f) (sym e) ∙ h
 
-  pub over-more : i < length fs → true ≡ writable i (get_or fs i 0) → first_over (i + 1) (drop (i + 1) fs) ≡ X
-  over-more h q = over-step true h q
+over_more : (f : ℕ) (fs : List ℕ) (s : ℕ) (x : Option ℕ) → writable (s + 0) f ≡ true → x ≡ first_over (s + 1) fs → x ≡ first_over s (f ∷ fs)
+over_more f fs s x t e = e ∙ sym (ap (λ b. cond b (first_over (s + 1) fs) (Some s)) (writable_at (s + 0) s f true (omega arith) t))
 
-  pub over_none : length fs ≤ i → None ≡ X
-  over_none h = sym (at_drop_all (first_over i) fs i h) ∙ so_far
+over_from : (fs : List ℕ) (s : ℕ) (r : Option ℕ) → OverAt fs s r → option_map (λ i. s + i) r ≡ first_over s fs
+over_from [] s None h = refl
+over_from [] s (Some i) h = absurd (omega (arith, h.0))
+over_from (f ∷ fs) s None h =
+    over_more f fs s None (h 0 (omega arith)) (over_from fs (s + 1) None (λ k p. writable_at (s + suc k) (s + 1 + k) _ true (omega arith) (h (suc k) (omega arith))))
+over_from (f ∷ fs) s (Some zero) h =
+    ap Some (omega arith) ∙ sym (ap (λ b. cond b (first_over (s + 1) fs) (Some s)) (writable_at (s + 0) s f false (omega arith) h.1))
+over_from (f ∷ fs) s (Some (suc i)) h =
+    ap Some (omega arith)
+    ∙ over_more f fs s (Some (s + 1 + i)) (h.2 0 (omega arith))
+      (over_from fs (s + 1) (Some i)
+      (omega (arith, h.0), writable_at (s + suc i) (s + 1 + i) _ false (omega arith) h.1, λ k p. writable_at (s + suc k) (s + 1 + k) _ true (omega arith) (h.2 (suc k) (omega arith))))
+
+-- the first place whose figure cannot be written, as a search of all places finds it
+pub over_first : (fs : List ℕ) (r : Option ℕ) (n : ℕ) → n ≡ length fs
+    → MatchOption r ((k : ℕ) → 0 ≤ k → k < n → writable k (get_or fs k 0) ≡ true) (λ i. (0 ≤ i) × (i < n) × (writable i (get_or fs i 0) ≡ false) × ((k : ℕ) → 0 ≤ k → k < i → writable k (get_or fs k 0) ≡ true))
+    → r ≡ first_over 0 fs
+over_first fs None n e h = over_from fs 0 None (λ k p. writable_at k (0 + k) _ true (omega arith) (h k (omega arith) (omega arith)))
+over_first fs (Some i) n e h =
+    ap Some (omega arith) ∙ over_from fs 0 (Some i) (omega (arith, h.1), writable_at i (0 + i) _ false (omega arith) h.2, λ k p. writable_at k (0 + k) _ true (omega arith) (h.3 k (omega arith) p))
 
 -- the three ways that a message is written or refused
 module _ (v : Verb) (fs out : List ℕ) where

@@ -53,7 +53,7 @@ pub fn verb_of(message: &[u32]) -> Option<Verb>
     let [word, ..] = message else {
         return None;
     };
-    Verb::of(*word)
+    Verb::try_from(*word).ok()
 }
 
 /// The call that a message makes, with no word copied; or the first word that does not fit.

@@ -1,4 +1,5 @@
-use Rattle.std.proofs.Common.{List, ◌++◌, drop, ap, ◌∙◌, arith, rules}
+use Rattle.std.proofs.Common.{ℕ, List, ◌++◌, length, ap, ◌∙◌, arith, rules}
+use Rattle.std.proofs.lemmas.List.{append-nil, drop_all}
 use Rattle.messages.specs.declared.kinds.Kind.{Kind}
 use Rattle.messages.specs.Kinds.{word_of}
 use Rattle.messages.specs.Verbs.{again}
@@ -18,6 +19,8 @@ loop-place-preserved c =
 
 pub returns : goal.returns
 returns c =
-    fill-all c.loop-place.invariant c.args.len (omega arith) (omega arith)
-    ∙ ap (λ (ks : List Kind). stamped ks c.first-left.result.now (draft_figures c.args.draft) ++ drop c.args.len c.args.out.now) c.again-more.ensures
-    ∙ ap (λ (ks : List Kind). stamped (again c.args.draft.verb) ks (draft_figures c.args.draft) ++ drop c.args.len c.args.out.now) c.first-left.ensures
+    fill-all c.loop-place.invariant (length c.args.out.now) (omega arith) (omega arith)
+    ∙ ap (λ (ws : List ℕ). stamped c.again-more.result.now c.first-left.result.now (draft_figures c.args.draft) ++ ws) (drop_all (length c.args.out.now) c.args.out.now (omega arith))
+    ∙ append-nil (stamped c.again-more.result.now c.first-left.result.now (draft_figures c.args.draft))
+    ∙ ap (λ (ks : List Kind). stamped ks c.first-left.result.now (draft_figures c.args.draft)) c.again-more.ensures
+    ∙ ap (λ (ks : List Kind). stamped (again c.args.draft.verb) ks (draft_figures c.args.draft)) c.first-left.ensures

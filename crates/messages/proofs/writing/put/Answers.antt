@@ -1,4 +1,4 @@
-use Rattle.std.proofs.Common.{sym, ◌∙◌, arith}
+use Rattle.std.proofs.Common.{ℕ, List, ◌++◌, drop, sym, ap, ◌∙◌, arith}
 use Rattle.messages.specs.Writing.{draft_figures}
 use Rattle.messages.proofs.Stamps.{writes_short, writes-over, writes-all}
 use Rattle.messages.proofs.writing.put.Goals as goal
@@ -12,5 +12,5 @@ returns-in-Some c =
 
 pub returns : goal.returns
 returns c =
-    writes-all c.args.draft.verb (draft_figures c.args.draft) c.args.out.now c.len-words.result c.fill.new.out
-    (omega arith) (omega arith) (sym c.in_default.is ∙ c.first_over.ensures) c.fill.ensures
+    writes-all c.args.draft.verb (draft_figures c.args.draft) c.args.out.now c.len-words.result _
+    (omega arith) (omega arith) (sym c.in_default.is ∙ c.first_over.ensures) (ap (λ (ws : List ℕ). ws ++ drop c.len-words.result c.args.out.now) c.fill.ensures)
