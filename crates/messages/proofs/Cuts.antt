@@ -1,5 +1,5 @@
 -- The first message of a list of words.
-use Rattle.std.proofs.Common.{◌≡◌, ℕ, suc, ◌+◌, ◌-◌, ◌<◌, ◌≤◌, true, false, cond, List, [], ◌∷◌, length, take, drop, Some, None, unwrap_or, nat_lt, sym, refl, ap, ◌∙◌, arith}
+use Rattle.std.proofs.Common.{◌≡◌, ℕ, suc, ◌+◌, ◌≤◌, true, false, cond, List, [], ◌∷◌, length, take, drop, Some, None, Option, unwrap_or, nat_lt, refl, ap, ◌∙◌, arith}
 use Rattle.std.specs.List.{flat_map, position, position_or_len}
 use Rattle.std.proofs.lemmas.Bool.Decides.{nat_tests}
 use Rattle.std.proofs.lemmas.List.Recursion.{is_position_or_len}
@@ -32,15 +32,14 @@ verb_or_end ws = unwrap_or (position (is_kind Verb) ws) (length ws)
 span-verb : (ws : List ℕ) → verb_or_end ws ≡ span ws
 span-verb ws = rw (← span_is_position ws) (cut_at (span ws) (length ws) (span_within ws))
 
-pub verb_within : (ws : List ℕ) → verb_or_end ws ≤ length ws
-verb_within ws = rw (span-verb ws) (span_within ws)
-
--- a list that is not empty is cut into its first message and the rest
-pub messages-cut : (ws behind : List ℕ) (n : ℕ) → 0 < length ws → behind ≡ drop 1 ws → n ≡ 1 + verb_or_end behind → messages ws ≡ take n ws ∷ messages (drop n ws)
-messages-cut [] behind n h b e = absurd (omega arith)
-messages-cut (w ∷ ws) behind n h b e =
-    let s : n ≡ suc (span ws) = omega (arith, span-verb ws, ap verb_or_end b) in
-    rw s (messages-first w ws)
+-- a list that is not empty is cut at the next verb into its first message and the rest
+pub messages-cut : (ws : List ℕ) (w : ℕ) (behind : List ℕ) (verb : Option ℕ) (n : ℕ) (message rest : List ℕ)
+    → ws ≡ w ∷ behind → verb ≡ position (is_kind Verb) behind → n ≡ unwrap_or verb (length behind)
+    → message ≡ take (1 + n) ws → rest ≡ drop (1 + n) ws
+    → messages ws ≡ message ∷ messages rest
+messages-cut ws w behind verb n message rest e v u m r =
+    let s : 1 + n ≡ suc (span behind) = omega (arith, span-verb behind, u ∙ ap (λ o. unwrap_or o (length behind)) v) in
+    rw (m, r, s, e) (messages-first w behind)
 
 joined-onto : (w : ℕ) (ms : List (List ℕ)) → flat_map (λ m. m) (onto w ms) ≡ w ∷ flat_map (λ m. m) ms
 joined-onto w [] = refl

@@ -1,8 +1,7 @@
 -- The figures of words, one by one and two by two.
-use Rattle.std.proofs.Common.{◌≡◌, ℕ, zero, suc, ◌+◌, ◌-◌, ◌*◌, ◌/◌, ◌<◌, ◌≤◌, List, [], ◌∷◌, ◌++◌, map, length, get_or, slice_get, sym, refl, ap, ◌∙◌, arith}
+use Rattle.std.proofs.Common.{◌≡◌, ℕ, zero, suc, ◌+◌, ◌*◌, ◌/◌, ◌<◌, List, [], ◌∷◌, map, length, get_or, slice_get, refl, ap, ◌∙◌, arith}
 use Rattle.std.specs.Option.{unwrap_or}
 use Rattle.std.proofs.lemmas.Option.{unwrap_or-slice_get}
-use Rattle.std.proofs.lemmas.List.{length-map, get_or_append_left, get_or-append_right}
 use Rattle.measures.specs.declared.Ticks.{Ticks}
 use Rattle.participants.specs.Participants.{unlisted}
 use Rattle.messages.specs.declared.rows.OpenRow.{OpenRow}
@@ -70,11 +69,3 @@ pub flat-second : (rs : List OpenRow) (i j : ℕ) → j ≡ 2 * i + 1 → get_or
 flat-second [] i j e = refl
 flat-second (r ∷ rs) zero j e = let z : j ≡ 1 = omega arith in rw z
 flat-second (r ∷ rs) (suc i) j e = let z : j ≡ suc (suc (2 * i + 1)) = omega arith in rw z (flat-second rs i (2 * i + 1) refl)
-
--- a figure behind a message's verb: a field, or one of the tail
-module _ (n : ℕ) (hs ts : List ℕ) (i j : ℕ) (behind : i ≡ suc j) where
-  pub in-fields : j < length hs → get_or hs j 0 ≡ get_or (n ∷ (hs ++ ts)) i 0
-  in-fields h = rw behind (sym (get_or_append_left hs ts 0 j h))
-
-  pub in_tail : (k : ℕ) → k ≡ j - length hs → length hs ≤ j → get_or ts k 0 ≡ get_or (n ∷ (hs ++ ts)) i 0
-  in_tail k e h = rw (behind, e) (sym (get_or-append_right hs ts (length hs) j 0 refl h))

@@ -1,11 +1,10 @@
 -- Figures written one by one as the words of a message.
-use Rattle.std.proofs.Common.{◌≡◌, ℕ, zero, suc, ◌+◌, ◌-◌, ◌^◌, ◌<◌, ◌≤◌, Bool, true, false, cond, List, [], ◌∷◌, ◌++◌, length, get_or, take, drop, set, Some, None, Ok, Err, Option, MatchOption, sym, refl, ap, ◌∙◌, arith}
+use Rattle.std.proofs.Common.{◌≡◌, ℕ, zero, suc, ◌+◌, ◌-◌, ◌^◌, ◌<◌, ◌≤◌, Bool, true, false, cond, List, [], ◌∷◌, ◌++◌, length, get_or, take, drop, set, Some, None, Option, MatchOption, sym, refl, ap, ◌∙◌, arith}
 use Rattle.std.specs.List.{AllByRecursion}
 use Rattle.std.specs.Option.{option_map}
-use Rattle.std.proofs.lemmas.List.{at_drop_more, at_drop_all, drop_more, take_more, take_rest, take-append-drop, length-drop, length-take-le, set_at, append-nil, append_assoc}
-use Rattle.std.proofs.lemmas.Bool.{lt-ltb, le-ltb, cond-true, cond-false, false≢true}
+use Rattle.std.proofs.lemmas.List.{at_drop_more, drop_more, take_more, take_rest, length-drop, length-take-le, set_at, append_assoc}
+use Rattle.std.proofs.lemmas.Bool.{false≢true}
 use Rattle.std.proofs.lemmas.Bool.Decides.{nat_tests}
-use Rattle.messages.specs.declared.faults.MessageFault.TheVariants.{Misfit, Short}
 use Rattle.messages.specs.declared.verbs.Verb.{Verb}
 use Rattle.messages.specs.declared.kinds.Kind.{Kind}
 use Rattle.messages.specs.declared.kinds.Kind.TheVariants as kind
@@ -15,7 +14,7 @@ use Rattle.messages.specs.declared.calls.Metal.TheVariants.{Gold, Silver}
 use Rattle.messages.specs.Kinds.{word_of}
 use Rattle.messages.specs.Verbs.{first, again}
 use Rattle.messages.specs.Reading.{coming}
-use Rattle.messages.specs.Writing.{opens, stamp, stamped, counted, writable, first_over, written_unless, writing_figures}
+use Rattle.messages.specs.Writing.{opens, stamp, stamped, counted, writable, first_over}
 use Rattle.messages.specs.Rows.{flat}
 
 -- after i figures: what was written, and what is still to be stamped
@@ -63,7 +62,7 @@ module _ {more kinds left : List Kind} {fs : List ℕ} {i : ℕ} {was now : List
   next-counted : i < length fs → (1 ≤ length (coming more left)) × (counted more (drop 1 (coming more left)) (drop (i + 1) fs) ≡ true)
   next-counted h = counted-some more left (get_or fs i 0) (drop (i + 1) fs) (sym (at_drop_more (counted more left) fs i 0 h) ∙ F.count)
 
-  pub comes : (ks : List Kind) → ks ≡ coming more left → i < length fs → 1 ≤ length ks
+  comes : (ks : List Kind) → ks ≡ coming more left → i < length fs → 1 ≤ length ks
   comes ks e h = rw e (next-counted h).0
 
   pub fill_more : (ks : List Kind) (d : Kind) (v : ℕ) → ks ≡ coming more left → v ≡ word_of (get_or ks 0 d) (get_or fs i 0) → i < length fs → i < length was
@@ -80,13 +79,6 @@ module _ {more kinds left : List Kind} {fs : List ℕ} {i : ℕ} {was now : List
         rest = p.2;
         count = (next-counted h).1;
       })
-
-  pub fill-all : (n : ℕ) → n ≡ i → length fs ≤ i → now ≡ stamped more kinds fs ++ drop n was
-  fill-all n q h =
-      let none : drop i (stamped more kinds fs) ≡ [] = F.rest ∙ at_drop_all (stamped more left) fs i h in
-      let all : take i (stamped more kinds fs) ≡ stamped more kinds fs =
-      sym (append-nil _) ∙ ap (λ x. take i (stamped more kinds fs) ++ x) (sym none) ∙ take-append-drop i (stamped more kinds fs) in
-      rw q (F.front ∙ ap (λ x. x ++ drop i was) all)
 
 -- r is the first of these places, the first of which is s, that cannot be written
 abbrev OverAt : List ℕ → ℕ → Option ℕ → Type 0
@@ -110,8 +102,8 @@ over_from (f ∷ fs) s (Some zero) h =
 over_from (f ∷ fs) s (Some (suc i)) h =
     ap Some (omega arith)
     ∙ over_more f fs s (Some (s + 1 + i)) (h.2 0 (omega arith))
-      (over_from fs (s + 1) (Some i)
-      (omega (arith, h.0), writable_at (s + suc i) (s + 1 + i) _ false (omega arith) h.1, λ k p. writable_at (s + suc k) (s + 1 + k) _ true (omega arith) (h.2 (suc k) (omega arith))))
+    (over_from fs (s + 1) (Some i)
+    (omega (arith, h.0), writable_at (s + suc i) (s + 1 + i) _ false (omega arith) h.1, λ k p. writable_at (s + suc k) (s + 1 + k) _ true (omega arith) (h.2 (suc k) (omega arith))))
 
 -- the first place whose figure cannot be written, as a search of all places finds it
 pub over_first : (fs : List ℕ) (r : Option ℕ) (n : ℕ) → n ≡ length fs
@@ -120,22 +112,6 @@ pub over_first : (fs : List ℕ) (r : Option ℕ) (n : ℕ) → n ≡ length fs
 over_first fs None n e h = over_from fs 0 None (λ k p. writable_at k (0 + k) _ true (omega arith) (h k (omega arith) (omega arith)))
 over_first fs (Some i) n e h =
     ap Some (omega arith) ∙ over_from fs 0 (Some i) (omega (arith, h.1), writable_at i (0 + i) _ false (omega arith) h.2, λ k p. writable_at k (0 + k) _ true (omega arith) (h.3 k (omega arith) p))
-
--- the three ways that a message is written or refused
-module _ (v : Verb) (fs out : List ℕ) where
-  pub writes_short : length out < length fs → (Err Short, out) ≡ writing_figures v fs out
-  writes_short h = sym (cond-true _ _ _ (lt-ltb (length out) (length fs) h))
-
-  fits-room : length fs ≤ length out → (o : Option ℕ) → o ≡ first_over 0 fs → written_unless o v fs out ≡ writing_figures v fs out
-  fits-room h o e = ap (λ x. written_unless x v fs out) e ∙ sym (cond-false _ _ _ (le-ltb (length out) (length fs) h))
-
-  pub writes-over : (i : ℕ) → length fs ≤ length out → Some i ≡ first_over 0 fs → (Err (Misfit i), out) ≡ writing_figures v fs out
-  writes-over i h e = fits-room h (Some i) e
-
-  pub writes-all : (n : ℕ) (new : List ℕ) → n ≡ length fs → n ≤ length out → None ≡ first_over 0 fs
-      → new ≡ stamped (again v) (first v) fs ++ drop n out
-      → (Ok n, new) ≡ writing_figures v fs out
-  writes-all n new c h e q = rw (q, c) (fits-room (omega arith) None e)
 
 -- the figures of begin and open are as many as may come
 pub counted-prices : (ps : List ℕ) → counted (kind.Price ∷ []) [] ps ≡ true

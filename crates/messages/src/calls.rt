@@ -2,9 +2,11 @@
 
 ghost use Rattle.std.specs.Prelude.{◌≡◌};
 ghost use Rattle.messages.specs.Calls.{said, time_of};
+ghost use Rattle.messages.specs.Writing.{opens};
 
 use crate::prices::Prices;
 use crate::rows::Rows;
+use crate::verbs::Verb;
 use measures::{Lots, Ticks};
 
 /// Which contract a session trades.
@@ -12,6 +14,18 @@ use measures::{Lots, Ticks};
 pub enum Metal {
     Gold,
     Silver,
+}
+
+/// The verb that opens a session.
+impl From<Metal> for Verb {
+    ghost from_gives = { λ m v. v ≡ opens m };
+
+    fn from(metal: Metal) -> Verb {
+        match metal {
+            Metal::Gold => Verb::OpenGold,
+            Metal::Silver => Verb::OpenSilver,
+        }
+    }
 }
 
 /// A message as a call. Times are in milliseconds since midnight.

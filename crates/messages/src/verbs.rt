@@ -66,7 +66,10 @@ impl TryFrom<u32> for Verb {
 fn find(first: &[Kind], again: &[Kind], kind: Kind) -> Option<usize>
     ensures { result ≡ position (λ k. kind_number k == kind_number kind) (first.now ++ again.now) }
 {
-    first.iter().chain(again.iter()).position(|one| *one == kind)
+    first
+        .iter()
+        .chain(again.iter())
+        .position(|one| *one == kind)
 }
 
 impl Verb {

@@ -4,9 +4,9 @@ ghost use Rattle.std.specs.Prelude.{◌≡◌, ◌^◌, ◌<◌, ◌≤◌, true
 ghost use Rattle.messages.specs.Verbs.{verb_number, first, again};
 ghost use Rattle.messages.specs.Calls.{said};
 ghost use Rattle.messages.specs.Reading.{reading};
-ghost use Rattle.messages.specs.Writing.{opens, tail_figures, draft_figures, stamped, counted, words_of, writable, first_over, writing_figures, writing};
+ghost use Rattle.messages.specs.Writing.{tail_figures, draft_figures, stamped, counted, words_of, writable, first_over, writing_figures, writing};
 
-use crate::calls::{Call, Metal};
+use crate::calls::Call;
 use crate::faults::MessageFault;
 use crate::kinds::{FIGURES, word};
 use crate::prices::Prices;
@@ -142,16 +142,6 @@ fn put_fields(verb: Verb, fields: &[u32], out: &mut [u32]) -> Result<usize, Mess
     put(Draft { verb, fields, tail }, out)
 }
 
-/// The verb that opens a session.
-fn opens(metal: Metal) -> Verb
-    ensures { result ≡ opens metal }
-{
-    match metal {
-        Metal::Gold => Verb::OpenGold,
-        Metal::Silver => Verb::OpenSilver,
-    }
-}
-
 /// Writes a call as its verb asks.
 fn put_call(call: &Call, out: &mut [u32]) -> Result<usize, MessageFault>
     ensures { (result, out.new) ≡ writing (said call.now) out.old }
@@ -190,7 +180,7 @@ fn put_call(call: &Call, out: &mut [u32]) -> Result<usize, MessageFault>
             let tail = Tail::Rows(rows);
             put(
                 Draft {
-                    verb: opens(metal),
+                    verb: Verb::from(metal),
                     fields: &[time, price.0],
                     tail,
                 },

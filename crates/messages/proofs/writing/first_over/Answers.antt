@@ -1,4 +1,4 @@
-use Rattle.std.proofs.Common.{◌≡◌, true, false, get_or, arith, rules}
+use Rattle.std.proofs.Common.{◌≡◌, true, false, get_or, rules}
 use Rattle.std.proofs.lemmas.Iterator.{first_from_Range}
 use Rattle.messages.specs.Writing.{draft_figures, writable}
 use Rattle.messages.proofs.Stamps.{over_first}
