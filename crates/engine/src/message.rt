@@ -20,8 +20,7 @@ fn put(out: &mut [u32], words: [u32; 2])
     requires { 2 ≤ length out.old }
     ensures { out.new ≡ fronted out.old words }
 {
-    out[0] = words[0];
-    out[1] = words[1];
+    out[..2].copy_from_slice(&words);
 }
 
 impl<C: FixingContract, P: SharingPolicy, B: MarginBook> Engine<C, P, B> {
