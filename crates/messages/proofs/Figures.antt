@@ -1,7 +1,8 @@
 -- The figures of words, one by one and two by two.
-use Rattle.std.proofs.Common.{◌≡◌, ℕ, zero, suc, ◌+◌, ◌*◌, ◌/◌, ◌<◌, List, [], ◌∷◌, map, length, get_or, slice_get, refl, ap, ◌∙◌, arith}
-use Rattle.std.specs.Option.{unwrap_or}
-use Rattle.std.proofs.lemmas.Option.{unwrap_or-slice_get}
+use Rattle.std.proofs.Common.{◌≡◌, ℕ, zero, suc, ◌+◌, ◌*◌, ◌/◌, List, [], ◌∷◌, map, length, get_or, slice_get, Option, sym, refl, ap, ◌∙◌, arith}
+use Rattle.std.specs.Option.{unwrap_or, option_map}
+use Rattle.std.specs.Simd.{first_chunks}
+use Rattle.std.proofs.lemmas.Option.{unwrap_or-slice_get, slice_get-map}
 use Rattle.measures.specs.declared.Ticks.{Ticks}
 use Rattle.participants.specs.Participants.{unlisted}
 use Rattle.messages.specs.declared.rows.OpenRow.{OpenRow}
@@ -12,12 +13,6 @@ use Rattle.messages.specs.Lent.{lent_of}
 use Rattle.messages.specs.Prices.{ticks, priced, prices_of}
 use Rattle.messages.specs.Rows.{row_of, blank_row, participant_figure, paired, listed_of}
 use Rattle.messages.specs.Rows.{flat}
-
--- past the end both sides are 0
-pub get_or-figures : (ws : List ℕ) (i : ℕ) → get_or (map figure_of ws) i 0 ≡ figure_of (get_or ws i 0)
-get_or-figures [] i = refl
-get_or-figures (w ∷ ws) zero = refl
-get_or-figures (w ∷ ws) (suc i) = get_or-figures ws i
 
 -- the ticks of a price, and none past the end
 pub get_or-ticks : (ps : List Ticks) (i : ℕ) (none : Ticks) → none.0 ≡ 0 → (get_or ps i none).0 ≡ get_or (map ticks ps) i 0
@@ -47,14 +42,22 @@ length-paired [] = refl
 length-paired (x ∷ []) = refl
 length-paired (x ∷ y ∷ fs) = omega (arith, length-paired fs)
 
-pub get_or-paired : (fs : List ℕ) (i : ℕ) → i < length (paired fs) → get_or (paired fs) i blank_row ≡ row_of (get_or fs (2 * i) 0) (get_or fs (2 * i + 1) 0)
-get_or-paired [] i h = absurd (omega arith)
-get_or-paired (x ∷ []) i h = absurd (omega arith)
-get_or-paired (x ∷ y ∷ fs) zero h = refl
-get_or-paired (x ∷ y ∷ fs) (suc i) h =
-    let e : 2 * suc i ≡ suc (suc (2 * i)) = omega arith in
-    let o : 2 * suc i + 1 ≡ suc (suc (2 * i + 1)) = omega arith in
-    rw (o, e) (get_or-paired fs i (omega arith))
+-- the row of two words
+abbrev pub row_of_pair : List ℕ → OpenRow
+row_of_pair p = row_of (figure_of (get_or p 0 0)) (figure_of (get_or p 1 0))
+
+-- the rows of words are those of their pairs
+paired-chunks : (ws : List ℕ) → paired (map figure_of ws) ≡ map row_of_pair (first_chunks 2 (length ws / 2) ws)
+paired-chunks [] = refl
+paired-chunks (x ∷ []) = refl
+paired-chunks (x ∷ y ∷ ws) =
+    let n : length (x ∷ y ∷ ws) / 2 ≡ suc (length ws / 2) = omega arith in
+    rw n (ap (λ rs. row_of (figure_of x) (figure_of y) ∷ rs) (paired-chunks ws))
+
+pub get-paired : (ws : List ℕ) (pairs : List (List ℕ)) (i : ℕ) (o : Option (List ℕ)) → pairs ≡ first_chunks 2 (length ws / 2) ws → slice_get pairs i ≡ o
+    → slice_get (paired (map figure_of ws)) i ≡ option_map row_of_pair o
+get-paired ws pairs i o e h =
+    ap (λ rs. slice_get rs i) (paired-chunks ws ∙ ap (map row_of_pair) (sym e)) ∙ slice_get-map row_of_pair pairs i ∙ ap (option_map row_of_pair) h
 
 pub length-flat : (rs : List OpenRow) → length (flat rs) ≡ 2 * length rs
 length-flat [] = refl

@@ -53,11 +53,9 @@ impl Worded for OpenRow {
     }
 
     fn pick(words: &[u32], row: usize) -> Option<OpenRow> {
-        if row < words.len() / 2 {
-            Some(OpenRow::of(figure(words[2 * row]), figure(words[2 * row + 1])))
-        } else {
-            None
-        }
+        let (pairs, _) = words.as_chunks::<2>();
+        let [participant, millions] = pairs.get(row)?;
+        Some(OpenRow::of(figure(*participant), figure(*millions)))
     }
 }
 

@@ -91,6 +91,7 @@ fn writable(place: usize, figure: u32) -> bool
 }
 
 /// The first place whose figure cannot be written there.
+// The length stands beside the draft, which counts in 128 bits and has no slice of its figures.
 fn first_over(draft: Draft, len: usize) -> Option<usize>
     requires { len ≡ length (draft_figures draft) }
     ensures { result ≡ first_over 0 (draft_figures draft.entry) }
