@@ -1,2 +1,5 @@
 pub mod Fronts
+pub mod Measures
 pub mod Misplaced
+pub mod Unchanged
+pub mod Words

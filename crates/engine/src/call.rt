@@ -1,12 +1,15 @@
 //! Answering a call.
 
-ghost use Rattle.std.specs.Prelude.{◌≡◌, IfOk, IfErr, MatchOption, OnErr};
+ghost use Rattle.std.specs.Prelude.{◌≡◌, Ok, Err, Some, None, IfOk, IfErr, MatchOption, OnErr};
+ghost use Rattle.session.specs.Measures.{reissue_outcome, announce_outcome};
 ghost use Rattle.session.specs.Opening.{opened};
+ghost use Rattle.session.specs.Orders.{with_order};
 ghost use Rattle.session.specs.State.{view, standing_at};
 ghost use Rattle.engine.specs.Misplaced.{misplaced_at};
-ghost use Rattle.engine.specs.declared.engine.Held.TheVariants.{Nothing, Order};
+ghost use Rattle.engine.specs.Measures.{MeasuredAs};
+ghost use Rattle.engine.specs.Unchanged.{Unchanged};
 
-use crate::engine::{Engine, Held};
+use crate::engine::Engine;
 use books::book::MarginBook;
 use contracts::fixing::FixingContract;
 use measures::Ticks;
@@ -16,6 +19,7 @@ use messages::faults::MessageFault;
 use participants::roster::Roster;
 use rounds::answers::Standing;
 use rounds::faults::SessionFault;
+use rounds::gates::check_time;
 use rounds::sides::Side;
 use session::open::RefusedOpening;
 use session::orders::{RefusedMeasure, SuspensionOrder};
@@ -23,18 +27,11 @@ use session::session::Session;
 use sharing::policy::SharingPolicy;
 use std::alloc::Global;
 
-/// The last millisecond of a day.
-const LAST_TIME: u32 = 86_399_999;
-
 /// Why a call is refused that this stage never takes.
 pub(crate) fn misplaced(time: u32) -> SessionFault
     ensures { result ≡ misplaced_at time }
 {
-    if time > LAST_TIME {
-        SessionFault::Time
-    } else {
-        SessionFault::WrongStage
-    }
+    check_time(time).err().unwrap_or(SessionFault::WrongStage)
 }
 
 /// What a refused opening hands back.
@@ -63,7 +60,7 @@ impl<C, P, B> Engine<C, P, B> {
             Ok(session) => Ok(Engine {
                 session,
                 book,
-                held: Held::Nothing,
+                held: None,
             }),
             Err(RefusedOpening { fault, policy }) => Err(Returned {
                 fault,
@@ -82,14 +79,14 @@ impl<C, P, B> Engine<C, P, B> {
 
     /// Takes an order into the empty hand.
     fn keep(&mut self, order: SuspensionOrder)
-        requires { self.old.held ≡ Nothing }
+        requires { self.old.held ≡ None }
         ensures session { self.new.session ≡ self.old.session }
         ensures book { self.new.book ≡ self.old.book }
-        ensures held { self.new.held ≡ Order order }
+        ensures held { self.new.held ≡ Some order }
     {
-        match std::mem::replace(&mut self.held, Held::Order(order)) {
-            Held::Nothing => {}
-            Held::Order(_earlier) => unreachable(),
+        match self.held.replace(order) {
+            None => {}
+            Some(_earlier) => unreachable(),
         }
     }
 
@@ -98,7 +95,7 @@ impl<C, P, B> Engine<C, P, B> {
         ensures book { self.new.book ≡ self.old.book }
         ensures kept { OnErr result (view self.new.session ≡ view self.old.session) }
     {
-        if let Held::Order(_) = &self.held {
+        if self.held.is_some() {
             return Err(misplaced(time));
         }
         let (standing, order) = self.session.suspend(time)?;
@@ -108,49 +105,53 @@ impl<C, P, B> Engine<C, P, B> {
 }
 
 impl<C: FixingContract, P: SharingPolicy, B: MarginBook> Engine<C, P, B> {
-    fn reissue(&mut self, time: u32, price: Ticks) -> Result<Standing, SessionFault>
-        ensures kept { OnErr result ((view self.new.session ≡ view self.old.session) × (B.MarginBook.means self.new.book ≡ B.MarginBook.means self.old.book)) }
+    /// Takes the order in hand for a measure.
+    fn order_at(&mut self, time: u32) -> Result<SuspensionOrder, SessionFault>
+        ensures order { MatchOption self.old.held (result ≡ Err (misplaced_at time)) (λ o. result ≡ Ok o) }
+        ensures session { self.new.session ≡ self.old.session }
+        ensures book { self.new.book ≡ self.old.book }
+        ensures held { self.new.held ≡ None }
     {
-        match std::mem::replace(&mut self.held, Held::Nothing) {
-            Held::Nothing => Err(misplaced(time)),
-            Held::Order(order) => match order.reissue(
-                &mut self.session,
-                &mut self.book,
-                time,
-                price,
-            ) {
-                Ok(standing) => Ok(standing),
-                Err(RefusedMeasure { fault, order }) => {
-                    self.keep(order);
-                    Err(fault)
-                }
-            },
+        self.held.take().ok_or_else(|| misplaced(time))
+    }
+
+    /// What a measure answered; a refused one puts its order back into the empty hand.
+    fn settle(&mut self, answer: Result<Standing, RefusedMeasure>) -> Result<Standing, SessionFault>
+        requires { self.old.held ≡ None }
+        ensures answer { result ≡ with_order answer }
+        ensures session { self.new.session ≡ self.old.session }
+        ensures book { self.new.book ≡ self.old.book }
+    {
+        match answer {
+            Ok(standing) => Ok(standing),
+            Err(RefusedMeasure { fault, order }) => {
+                self.keep(order);
+                Err(fault)
+            }
         }
     }
 
-    fn announce(&mut self, time: u32, price: Ticks) -> Result<Standing, SessionFault>
-        ensures kept { OnErr result ((view self.new.session ≡ view self.old.session) × (B.MarginBook.means self.new.book ≡ B.MarginBook.means self.old.book)) }
+    fn reissue(&mut self, time: u32, price: Ticks) -> Result<Standing, SessionFault>
+        ensures outcome { MeasuredAs self.old.held time (reissue_outcome C.QuotedContract.margin (view self.old.session) (B.MarginBook.means self.old.book) time price) result (view self.new.session) (B.MarginBook.means self.new.book) }
+        ensures kept { OnErr result (Unchanged B.MarginBook.means self.old self.new) }
     {
-        match std::mem::replace(&mut self.held, Held::Nothing) {
-            Held::Nothing => Err(misplaced(time)),
-            Held::Order(order) => match order.announce(
-                &mut self.session,
-                &mut self.book,
-                time,
-                price,
-            ) {
-                Ok(standing) => Ok(standing),
-                Err(RefusedMeasure { fault, order }) => {
-                    self.keep(order);
-                    Err(fault)
-                }
-            },
-        }
+        let order = self.order_at(time)?;
+        let answer = order.reissue(&mut self.session, &mut self.book, time, price);
+        self.settle(answer)
+    }
+
+    fn announce(&mut self, time: u32, price: Ticks) -> Result<Standing, SessionFault>
+        ensures outcome { MeasuredAs self.old.held time (announce_outcome C.QuotedContract.margin (view self.old.session) (B.MarginBook.means self.old.book) time price) result (view self.new.session) (B.MarginBook.means self.new.book) }
+        ensures kept { OnErr result (Unchanged B.MarginBook.means self.old self.new) }
+    {
+        let order = self.order_at(time)?;
+        let answer = order.announce(&mut self.session, &mut self.book, time, price);
+        self.settle(answer)
     }
 
     /// Answers a call. A refusal changes nothing.
     pub fn answer(&mut self, call: &Call) -> Result<Answer, MessageFault>
-        ensures kept { OnErr result ((view self.new.session ≡ view self.old.session) × (B.MarginBook.means self.new.book ≡ B.MarginBook.means self.old.book)) }
+        ensures kept { OnErr result (Unchanged B.MarginBook.means self.old self.new) }
     {
         Ok(match *call {
             Call::Quote { time, row, price } => Answer::Standing(
@@ -181,9 +182,9 @@ impl<C: FixingContract, P: SharingPolicy, B: MarginBook> Engine<C, P, B> {
 
     /// Announces the Offered Price at the last accepted time, if the session is suspended.
     pub fn announce_if_suspended(&mut self) -> Option<Result<Standing, SessionFault>>
-        ensures { MatchOption result ((view self.new.session ≡ view self.old.session) × (self.old.held ≡ Nothing)) (λ a. OnErr a (view self.new.session ≡ view self.old.session)) }
+        ensures { MatchOption result ((view self.new.session ≡ view self.old.session) × (self.old.held ≡ None)) (λ a. OnErr a (view self.new.session ≡ view self.old.session)) }
     {
-        if let Held::Nothing = &self.held {
+        if self.held.is_none() {
             return None;
         }
         let time = self.session.clock();
@@ -200,9 +201,8 @@ impl<C: Drop, P: Drop, B: Drop> Engine<C, P, B> {
             book: _,
             held,
         } = self;
-        match held {
-            Held::Nothing => {}
-            Held::Order(order) => order.end(session),
+        if let Some(order) = held {
+            order.end(session);
         }
     }
 }

@@ -5,6 +5,7 @@ ghost use Rattle.messages.specs.Faults.{number_of, layer_of, placed_at, word_at_
 ghost use Rattle.messages.specs.declared.faults.MessageFault.TheVariants.{Session};
 
 use crate::kinds::Kind;
+use crate::prices::MOST_PRICES;
 use crate::verbs::Verb;
 use rounds::faults::SessionFault;
 
@@ -55,8 +56,7 @@ impl MessageFault {
         ensures { result ≡ layer_of self }
     {
         match self {
-            MessageFault::Misfit { .. } => Layer::Message,
-            MessageFault::Short => Layer::Message,
+            MessageFault::Misfit { .. } | MessageFault::Short => Layer::Message,
             MessageFault::Session(SessionFault::Book(_)) => Layer::Book,
             MessageFault::Session(_) => Layer::Session,
         }
@@ -84,7 +84,7 @@ fn word_at_fault(fault: SessionFault, verb: Verb) -> usize
         SessionFault::Row => verb.place_of(Kind::Row),
         SessionFault::Amount => verb.place_of(Kind::Lots),
         SessionFault::Price { at } => verb.place_of(Kind::Price).wrapping_add(at),
-        SessionFault::TooManyPrices => verb.place_of(Kind::Price).wrapping_add(10_000),
+        SessionFault::TooManyPrices => verb.place_of(Kind::Price).wrapping_add(MOST_PRICES),
         SessionFault::Participant { row } => verb
             .place_of(Kind::Participant)
             .wrapping_add(row.wrapping_mul(2)),

@@ -1,14 +1,13 @@
 //! Measures that are refused: the suspension order comes back each time, until one is accepted.
 
 use crate::expected::{holds, is_at, refused, taken};
-use crate::setup::{
-    BEGUN, CUSTOMER, bank_line, bank_line_book, buy, cash_book, free, sell, silver,
-};
+use crate::setup::{BEGUN, CUSTOMER, bank_line, bank_line_book, cash_book, free, silver, tender};
 use crate::suspension::{Suspended, handed_back, spent, suspend};
 use crate::tally::Tally;
 use books::book::MarginBook;
 use contracts::shag::Shag;
 use measures::{Fen, Lots, Ticks};
+use rounds::sides::Side;
 use rounds::stages::Stage;
 use session::session::Session;
 use sharing::table_order::TableOrder;
@@ -21,8 +20,11 @@ fn suspended_silver<B: MarginBook>(
     book: &mut B,
 ) -> Option<Suspended<Shag, TableOrder>> {
     let mut session = silver(heap, 100)?;
-    let ready = taken(buy(&mut session, book, BEGUN, CUSTOMER, 10), 0, 10)
-        && taken(sell(&mut session, book, BEGUN, 1, 4), 1, 4);
+    let ready = taken(
+        tender(Side::Buy, &mut session, book, BEGUN, CUSTOMER, 10),
+        0,
+        10,
+    ) && taken(tender(Side::Sell, &mut session, book, BEGUN, 1, 4), 1, 4);
     suspend(ready.then_some(session)?, BEGUN + 5, 100)
 }
 
@@ -56,7 +58,11 @@ fn a_reissue_after_another_hand(heap: Global) -> Option<bool> {
                 session.reduce(&mut book, BEGUN + 6, CUSTOMER, 0, Lots(1)),
                 28,
             )
-            && taken(buy(&mut session, &mut book, BEGUN + 6, CUSTOMER, 1), 2, 1)
+            && taken(
+                tender(Side::Buy, &mut session, &mut book, BEGUN + 6, CUSTOMER, 1),
+                2,
+                1,
+            )
             && holds(&book, CUSTOMER, 136_500, 13_500),
     )
 }
@@ -116,7 +122,11 @@ fn the_last_round_before_the_book(heap: Global) -> Option<bool> {
     let mut book = cash_book(heap, &[free(15_000)])?;
     let mut empty = cash_book(heap, &[])?;
     let mut session = in_the_last_round(heap, &mut book)?;
-    let tendered = taken(sell(&mut session, &mut book, BEGUN, 0, 1), 0, 1);
+    let tendered = taken(
+        tender(Side::Sell, &mut session, &mut book, BEGUN, 0, 1),
+        0,
+        1,
+    );
     let Suspended { mut session, order } = suspend(session, BEGUN, 100)?;
     let answer = order.reissue(&mut session, &mut empty, BEGUN, Ticks(100));
     let (last, order) = handed_back(answer, 33)?;
@@ -136,20 +146,14 @@ fn the_last_round_before_the_book(heap: Global) -> Option<bool> {
 }
 
 /// Plays the trials of this file.
-pub fn play(rt: &HostRuntime, heap: Global, tally: &mut Tally) -> anyhow::Result<()> {
-    tally.note(
-        rt,
-        "a_reissue_after_another_hand",
-        a_reissue_after_another_hand(heap),
-    )?;
-    tally.note(
-        rt,
+pub fn play(tally: &mut Tally) -> anyhow::Result<()> {
+    tally.play("a_reissue_after_another_hand", a_reissue_after_another_hand)?;
+    tally.play(
         "an_announcement_after_another_hand",
-        an_announcement_after_another_hand(heap),
+        an_announcement_after_another_hand,
     )?;
-    tally.note(
-        rt,
+    tally.play(
         "the_last_round_before_the_book",
-        the_last_round_before_the_book(heap),
+        the_last_round_before_the_book,
     )
 }

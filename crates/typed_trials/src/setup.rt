@@ -70,6 +70,7 @@ pub fn quoting<C, P: Drop>(
     limit: usize,
     policy: P,
 ) -> Option<Session<C, P>> {
+    // A refused opening has no `Drop`, so that `ok()` cannot let it fall.
     match Session::open(
         heap,
         OPENED,
@@ -114,26 +115,16 @@ pub fn silver(heap: Global, price: u32) -> Option<Session<Shag, TableOrder>> {
     market(heap, price, LIMIT, TableOrder)
 }
 
-/// A row buys lots.
-pub fn buy<C: QuotedContract, P, B: MarginBook>(
+/// A row buys or sells lots.
+pub fn tender<C: QuotedContract, P, B: MarginBook>(
+    side: Side,
     session: &mut Session<C, P>,
     book: &mut B,
     time: u32,
     row: u32,
     lots: u32,
 ) -> Result<Tendered, SessionFault> {
-    session.tender(book, time, row, Side::Buy, Lots(lots))
-}
-
-/// A row sells lots.
-pub fn sell<C: QuotedContract, P, B: MarginBook>(
-    session: &mut Session<C, P>,
-    book: &mut B,
-    time: u32,
-    row: u32,
-    lots: u32,
-) -> Result<Tendered, SessionFault> {
-    session.tender(book, time, row, Side::Sell, Lots(lots))
+    session.tender(book, time, row, side, Lots(lots))
 }
 
 /// What an account holds.

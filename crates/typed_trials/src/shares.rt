@@ -78,8 +78,8 @@ fn in_table_order(heap: Global) -> Option<bool> {
 }
 
 /// Plays the trials of this file.
-pub fn play(rt: &HostRuntime, heap: Global, tally: &mut Tally) -> anyhow::Result<()> {
-    tally.note(rt, "by_turn_from_2", by_turn_from_2(heap))?;
-    tally.note(rt, "by_turn_from_31_and_32", by_turn_from_31_and_32(heap))?;
-    tally.note(rt, "in_table_order", in_table_order(heap))
+pub fn play(tally: &mut Tally) -> anyhow::Result<()> {
+    tally.play("by_turn_from_2", by_turn_from_2)?;
+    tally.play("by_turn_from_31_and_32", by_turn_from_31_and_32)?;
+    tally.play("in_table_order", in_table_order)
 }

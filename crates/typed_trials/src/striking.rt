@@ -2,13 +2,14 @@
 
 use crate::expected::{holds, is_at, is_unknown, refused, stands, taken};
 use crate::setup::{
-    BEGUN, CLOSED, CUSTOMER, ROUND_OVER, bank_line, bank_line_book, buy, cash_book, free, gold,
-    held, sell, silver,
+    BEGUN, CLOSED, CUSTOMER, ROUND_OVER, bank_line, bank_line_book, cash_book, free, gold, held,
+    silver, tender,
 };
 use crate::tally::Tally;
 use books::book::MarginBook;
 use contracts::shau::Shau;
 use measures::Fen;
+use rounds::sides::Side;
 use rounds::stages::Stage;
 use session::session::Session;
 use sharing::by_turn::ByTurn;
@@ -18,10 +19,18 @@ use std::alloc::Global;
 /// (1,800,000), and row 1 has sold 50 (300,000). The excess of 450 lots will raise the price by 10.
 fn before_a_rise<B: MarginBook>(heap: Global, book: &mut B) -> Option<Session<Shau, ByTurn>> {
     let mut session = gold(heap, 100)?;
-    let ready = taken(buy(&mut session, book, BEGUN, 0, 200), 0, 200)
-        && taken(buy(&mut session, book, BEGUN, CUSTOMER, 200), 1, 200)
-        && taken(sell(&mut session, book, BEGUN, 1, 50), 2, 50)
-        && taken(buy(&mut session, book, BEGUN, CUSTOMER, 100), 3, 100)
+    let ready = taken(tender(Side::Buy, &mut session, book, BEGUN, 0, 200), 0, 200)
+        && taken(
+            tender(Side::Buy, &mut session, book, BEGUN, CUSTOMER, 200),
+            1,
+            200,
+        )
+        && taken(tender(Side::Sell, &mut session, book, BEGUN, 1, 50), 2, 50)
+        && taken(
+            tender(Side::Buy, &mut session, book, BEGUN, CUSTOMER, 100),
+            3,
+            100,
+        )
         && stands(session.close(book, CLOSED), Stage::Supplementary, 100);
     ready.then_some(session)
 }
@@ -102,9 +111,15 @@ fn a_fall_on_bank_lines(heap: Global) -> Option<bool> {
         &[none, none, bank_line(600_000, 0), bank_line(10_500_000, 0)],
     )?;
     Some(
-        taken(sell(&mut session, &mut book, BEGUN, CUSTOMER, 700), 0, 700)
-            && taken(buy(&mut session, &mut book, BEGUN, 2, 40), 1, 40)
-            && stands(session.close(&mut book, CLOSED), Stage::Supplementary, 100)
+        taken(
+            tender(Side::Sell, &mut session, &mut book, BEGUN, CUSTOMER, 700),
+            0,
+            700,
+        ) && taken(
+            tender(Side::Buy, &mut session, &mut book, BEGUN, 2, 40),
+            1,
+            40,
+        ) && stands(session.close(&mut book, CLOSED), Stage::Supplementary, 100)
             && book.release(CUSTOMER, Fen(1)).is_ok()
             && refused(session.close(&mut book, ROUND_OVER), 32)
             && holds(&book, CUSTOMER, 1, 10_499_999)
@@ -123,10 +138,17 @@ fn closes_that_ask_no_book(heap: Global) -> Option<bool> {
     let mut halting = gold(heap, 10)?;
     let mut fixing = gold(heap, 10)?;
     Some(
-        taken(sell(&mut halting, &mut book, BEGUN, 0, 401), 0, 401)
-            && stands(halting.close(&mut empty, CLOSED), Stage::Supplementary, 10)
+        taken(
+            tender(Side::Sell, &mut halting, &mut book, BEGUN, 0, 401),
+            0,
+            401,
+        ) && stands(halting.close(&mut empty, CLOSED), Stage::Supplementary, 10)
             && stands(halting.close(&mut empty, ROUND_OVER), Stage::Halted, 10)
-            && taken(sell(&mut fixing, &mut book, BEGUN, 0, 400), 0, 400)
+            && taken(
+                tender(Side::Sell, &mut fixing, &mut book, BEGUN, 0, 400),
+                0,
+                400,
+            )
             && stands(fixing.close(&mut empty, CLOSED), Stage::Supplementary, 10)
             && stands(fixing.close(&mut empty, ROUND_OVER), Stage::Fixed, 10)
             && holds(&book, 0, 519_400, 480_600),
@@ -134,22 +156,13 @@ fn closes_that_ask_no_book(heap: Global) -> Option<bool> {
 }
 
 /// Plays the trials of this file.
-pub fn play(rt: &HostRuntime, heap: Global, tally: &mut Tally) -> anyhow::Result<()> {
-    tally.note(
-        rt,
-        "a_rise_after_another_hand",
-        a_rise_after_another_hand(heap),
-    )?;
-    tally.note(
-        rt,
+pub fn play(tally: &mut Tally) -> anyhow::Result<()> {
+    tally.play("a_rise_after_another_hand", a_rise_after_another_hand)?;
+    tally.play(
         "the_first_row_at_fault_decides",
-        the_first_row_at_fault_decides(heap),
+        the_first_row_at_fault_decides,
     )?;
-    tally.note(
-        rt,
-        "rows_with_nothing_to_release",
-        rows_with_nothing_to_release(heap),
-    )?;
-    tally.note(rt, "a_fall_on_bank_lines", a_fall_on_bank_lines(heap))?;
-    tally.note(rt, "closes_that_ask_no_book", closes_that_ask_no_book(heap))
+    tally.play("rows_with_nothing_to_release", rows_with_nothing_to_release)?;
+    tally.play("a_fall_on_bank_lines", a_fall_on_bank_lines)?;
+    tally.play("closes_that_ask_no_book", closes_that_ask_no_book)
 }
