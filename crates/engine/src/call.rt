@@ -19,8 +19,8 @@ use messages::faults::MessageFault;
 use participants::roster::Roster;
 use rounds::answers::Standing;
 use rounds::faults::SessionFault;
-use rounds::gates::check_time;
 use rounds::sides::Side;
+use rounds::times::TimeOfDay;
 use session::open::RefusedOpening;
 use session::orders::{RefusedMeasure, SuspensionOrder};
 use session::session::Session;
@@ -31,7 +31,9 @@ use std::alloc::Global;
 pub(crate) fn misplaced(time: u32) -> SessionFault
     ensures { result ≡ misplaced_at time }
 {
-    check_time(time).err().unwrap_or(SessionFault::WrongStage)
+    TimeOfDay::try_from(time)
+        .err()
+        .unwrap_or(SessionFault::WrongStage)
 }
 
 /// What a refused opening hands back.
@@ -53,7 +55,7 @@ impl<C, P, B> Engine<C, P, B> {
         policy: P,
         book: B,
     ) -> Result<Engine<C, P, B>, Returned<P, B>>
-        ensures opened { IfOk result (λ e. (view e.session ≡ opened (R.Roster.listed roster.now) time previous limit policy) × (e.book ≡ book)) }
+        ensures opened { IfOk result (λ e. (view e.session ≡ opened (R.listed roster.now) time previous limit policy) × (e.book ≡ book)) }
         ensures refused { IfErr result (λ e. (e.policy ≡ policy) × (e.book ≡ book)) }
     {
         match Session::open(heap, time, previous, roster, limit, policy) {
@@ -132,8 +134,8 @@ impl<C: FixingContract, P: SharingPolicy, B: MarginBook> Engine<C, P, B> {
     }
 
     fn reissue(&mut self, time: u32, price: Ticks) -> Result<Standing, SessionFault>
-        ensures outcome { MeasuredAs self.old.held time (reissue_outcome C.QuotedContract.margin (view self.old.session) (B.MarginBook.means self.old.book) time price) result (view self.new.session) (B.MarginBook.means self.new.book) }
-        ensures kept { OnErr result (Unchanged B.MarginBook.means self.old self.new) }
+        ensures outcome { MeasuredAs self.old.held time (reissue_outcome C.MARGIN.0 (view self.old.session) (B.means self.old.book) time price) result (view self.new.session) (B.means self.new.book) }
+        ensures kept { OnErr result (Unchanged B.means self.old self.new) }
     {
         let order = self.order_at(time)?;
         let answer = order.reissue(&mut self.session, &mut self.book, time, price);
@@ -141,8 +143,8 @@ impl<C: FixingContract, P: SharingPolicy, B: MarginBook> Engine<C, P, B> {
     }
 
     fn announce(&mut self, time: u32, price: Ticks) -> Result<Standing, SessionFault>
-        ensures outcome { MeasuredAs self.old.held time (announce_outcome C.QuotedContract.margin (view self.old.session) (B.MarginBook.means self.old.book) time price) result (view self.new.session) (B.MarginBook.means self.new.book) }
-        ensures kept { OnErr result (Unchanged B.MarginBook.means self.old self.new) }
+        ensures outcome { MeasuredAs self.old.held time (announce_outcome C.MARGIN.0 (view self.old.session) (B.means self.old.book) time price) result (view self.new.session) (B.means self.new.book) }
+        ensures kept { OnErr result (Unchanged B.means self.old self.new) }
     {
         let order = self.order_at(time)?;
         let answer = order.announce(&mut self.session, &mut self.book, time, price);
@@ -151,7 +153,7 @@ impl<C: FixingContract, P: SharingPolicy, B: MarginBook> Engine<C, P, B> {
 
     /// Answers a call. A refusal changes nothing.
     pub fn answer(&mut self, call: &Call) -> Result<Answer, MessageFault>
-        ensures kept { OnErr result (Unchanged B.MarginBook.means self.old self.new) }
+        ensures kept { OnErr result (Unchanged B.means self.old self.new) }
     {
         Ok(match *call {
             Call::Quote { time, row, price } => Answer::Standing(

@@ -26,7 +26,7 @@ fn put(out: &mut [u32], words: [u32; 2])
 impl<C: FixingContract, P: SharingPolicy, B: MarginBook> Engine<C, P, B> {
     /// Answers the call that a message makes.
     pub fn hear(&mut self, message: &[u32]) -> Result<Answer, MessageFault>
-        ensures kept { OnErr result (Unchanged B.MarginBook.means self.old self.new) }
+        ensures kept { OnErr result (Unchanged B.means self.old self.new) }
     {
         let call = read(message)?;
         self.answer(&call)
@@ -38,7 +38,7 @@ impl<C: FixingContract, P: SharingPolicy, B: MarginBook> Engine<C, P, B> {
         message: &[u32],
         out: &mut [u32],
     ) -> Result<Answer, MessageFault>
-        ensures kept { OnErr result (Unchanged B.MarginBook.means self.old self.new) }
+        ensures kept { OnErr result (Unchanged B.means self.old self.new) }
         ensures short { length out.old < 2 → (result ≡ Err Short) × (out.new ≡ out.old) }
         ensures words { 2 ≤ length out.old → out.new ≡ fronted out.old (answer_words result (verb_named message.now)) }
     {
