@@ -7,7 +7,7 @@ ghost use Rattle.rounds.specs.Stages.{is_market, is_supplementary};
 ghost use Rattle.lines.specs.Lines.{imbalance, excess};
 ghost use Rattle.session.specs.Closing.{close_move, market_outcome, move_outcome, supplementary_outcome, close_outcome};
 ghost use Rattle.session.specs.Periods.{entered};
-ghost use Rattle.session.specs.State.{view, came, with_period, standing_at};
+ghost use Rattle.session.specs.State.{view, came, Unchanged, with_period, standing_at};
 
 use crate::session::Session;
 use books::book::MarginBook;
@@ -25,6 +25,7 @@ pub(crate) const LAST_ROUND: u32 = 64;
 
 impl<C, P> Session<C, P> {
     /// Enters another stage of the same round, at the same price.
+    // that a price is offered is asked where it is needed: it follows from the stages that a call belongs to
     pub(crate) fn turn_to(&mut self, stage: Stage, time: TimeOfDay) -> Standing
         requires { 1 ≤ self.old.period.price.0 }
         ensures answer { result ≡ standing_at (entered self.old.period stage time.ms) }
@@ -78,7 +79,7 @@ impl<C: FixingContract, P: SharingPolicy> Session<C, P> {
         requires offered { 1 ≤ self.old.period.price.0 }
         requires beyond { C.THRESHOLD.0 < imbalance (view self.old).lines }
         ensures outcome { came result (view self.new) (B.means book.new) ≡ move_outcome C.MARGIN.0 (view self.old) (B.means book.old) time.ms (close_move C.step (view self.old)) (moved_price self.old.period.price.0 (close_move C.step (view self.old))) }
-        ensures kept { OnErr result ((view self.new ≡ view self.old) × (B.means book.new ≡ B.means book.old)) }
+        ensures kept { OnErr result (Unchanged B.means self.old self.new book.old book.new) }
         ensures moved { IfOk result (λ s. is_market s.stage ≡ true → Beyond (up_for (excess (view self.old).lines)) self.old.period.price.0 s.price.0) }
     {
         let by = self.next_move();
@@ -106,7 +107,7 @@ impl<C: FixingContract, P: SharingPolicy> Session<C, P> {
     ) -> Result<Standing, SessionFault>
         requires { 1 ≤ self.old.period.price.0 }
         ensures outcome { came result (view self.new) (B.means book.new) ≡ supplementary_outcome C.MARGIN.0 C.THRESHOLD.0 C.step P.share P.told (view self.old) (B.means book.old) time.ms }
-        ensures kept { OnErr result ((view self.new ≡ view self.old) × (B.means book.new ≡ B.means book.old)) }
+        ensures kept { OnErr result (Unchanged B.means self.old self.new book.old book.new) }
         ensures moved { IfOk result (λ s. is_market s.stage ≡ true → Beyond (up_for (excess (view self.old).lines)) self.old.period.price.0 s.price.0) }
     {
         if self.table.imbalance() <= C::THRESHOLD {
@@ -123,7 +124,7 @@ impl<C: FixingContract, P: SharingPolicy> Session<C, P> {
         time: u32,
     ) -> Result<Standing, SessionFault>
         ensures outcome { came result (view self.new) (B.means book.new) ≡ close_outcome C.MARGIN.0 C.THRESHOLD.0 C.step P.share P.told (view self.old) (B.means book.old) time }
-        ensures kept { OnErr result ((view self.new ≡ view self.old) × (B.means book.new ≡ B.means book.old)) }
+        ensures kept { OnErr result (Unchanged B.means self.old self.new book.old book.new) }
         ensures moved { IfOk result (λ s. is_market s.stage ≡ true → Beyond (up_for (excess (view self.old).lines)) self.old.period.price.0 s.price.0) }
     {
         let open = matches!(self.period.stage, Stage::Market | Stage::Supplementary);

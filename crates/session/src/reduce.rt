@@ -2,7 +2,7 @@
 
 ghost use Rattle.std.specs.Prelude.{◌≡◌, ◌≤◌, IfOk, OnErr, OnOk};
 ghost use Rattle.session.specs.Reductions.{own_line, row_line, reduce_outcome};
-ghost use Rattle.session.specs.State.{view, came};
+ghost use Rattle.session.specs.State.{view, came, Unchanged};
 
 use crate::session::Session;
 use books::book::MarginBook;
@@ -55,7 +55,7 @@ impl<C: QuotedContract, P> Session<C, P> {
         lots: Lots,
     ) -> Result<Standing, SessionFault>
         ensures outcome { came result (view self.new) (B.means book.new) ≡ reduce_outcome C.MARGIN.0 C.LARGEST.0 (view self.old) (B.means book.old) time row line lots.0 }
-        ensures kept { OnErr result ((view self.new ≡ view self.old) × (B.means book.new ≡ B.means book.old)) }
+        ensures kept { OnErr result (Unchanged B.means self.old self.new book.old book.new) }
     {
         let open = self.period.stage == Stage::Market;
         let time = self.period.admit(open, time)?;

@@ -2,7 +2,7 @@
 
 ghost use Rattle.std.specs.Prelude.{◌≡◌, IfOk, OnErr};
 ghost use Rattle.session.specs.Periods.{Lawful};
-ghost use Rattle.session.specs.State.{view, came, standing_at};
+ghost use Rattle.session.specs.State.{view, came, Unchanged, standing_at};
 ghost use Rattle.session.specs.Striking.{strike_into};
 
 use crate::session::Session;
@@ -23,7 +23,7 @@ impl<C: QuotedContract, P> Session<C, P> {
     ) -> Result<Standing, SessionFault>
         requires { Lawful period }
         ensures outcome { came result (view self.new) (B.means book.new) ≡ strike_into C.MARGIN.0 (view self.old) (B.means book.old) which period }
-        ensures kept { OnErr result ((view self.new ≡ view self.old) × (B.means book.new ≡ B.means book.old)) }
+        ensures kept { OnErr result (Unchanged B.means self.old self.new book.old book.new) }
         ensures standing { IfOk result (λ s. s ≡ standing_at period) }
     {
         self.table.strike::<C, B>(book, which)?;

@@ -4,7 +4,7 @@ ghost use Rattle.std.specs.Prelude.{◌≡◌, IfErr, OnErr};
 ghost use Rattle.books.specs.Accounts.{Accounts};
 ghost use Rattle.session.specs.Measures.{suspend_outcome, reissue_outcome, announce_outcome};
 ghost use Rattle.session.specs.Orders.{with_order, without_order};
-ghost use Rattle.session.specs.State.{view, came};
+ghost use Rattle.session.specs.State.{view, came, Unchanged};
 
 use crate::close::LAST_ROUND;
 use crate::orders::{RefusedMeasure, SuspensionOrder};
@@ -43,7 +43,7 @@ impl<C: QuotedContract, P> Session<C, P> {
         price: Ticks,
     ) -> Result<Standing, SessionFault>
         ensures outcome { came result (view self.new) (B.means book.new) ≡ reissue_outcome C.MARGIN.0 (view self.old) (B.means book.old) time price }
-        ensures kept { OnErr result ((view self.new ≡ view self.old) × (B.means book.new ≡ B.means book.old)) }
+        ensures kept { OnErr result (Unchanged B.means self.old self.new book.old book.new) }
     {
         let suspended = self.period.stage == Stage::Suspended;
         let time = self.period.admit(suspended, time)?;
@@ -70,7 +70,7 @@ impl<C: QuotedContract, P> Session<C, P> {
         price: Ticks,
     ) -> Result<Standing, SessionFault>
         ensures outcome { came result (view self.new) (B.means book.new) ≡ announce_outcome C.MARGIN.0 (view self.old) (B.means book.old) time price }
-        ensures kept { OnErr result ((view self.new ≡ view self.old) × (B.means book.new ≡ B.means book.old)) }
+        ensures kept { OnErr result (Unchanged B.means self.old self.new book.old book.new) }
     {
         let suspended = self.period.stage == Stage::Suspended;
         let time = self.period.admit(suspended, time)?;
@@ -95,13 +95,14 @@ impl SuspensionOrder {
         price: Ticks,
     ) -> Result<Standing, RefusedMeasure>
         ensures outcome { came (with_order result) (view session.new) (B.means book.new) ≡ reissue_outcome C.MARGIN.0 (view session.old) (B.means book.old) time price }
-        ensures kept { OnErr result ((view session.new ≡ view session.old) × (B.means book.new ≡ B.means book.old)) }
+        ensures kept { OnErr result (Unchanged B.means session.old session.new book.old book.new) }
         ensures order { IfErr result (λ e. e.order ≡ self) }
     {
         self.settle(session.reissue(book, time, price))
     }
 
     /// Strikes all lines and sets the benchmark; nothing is filled. A refusal hands the order back.
+    // beside `reissue` and not one with it: each is a line, and its contract names its own outcome
     pub fn announce<C: QuotedContract, P, B: MarginBook>(
         self,
         session: &mut Session<C, P>,
@@ -110,7 +111,7 @@ impl SuspensionOrder {
         price: Ticks,
     ) -> Result<Standing, RefusedMeasure>
         ensures outcome { came (with_order result) (view session.new) (B.means book.new) ≡ announce_outcome C.MARGIN.0 (view session.old) (B.means book.old) time price }
-        ensures kept { OnErr result ((view session.new ≡ view session.old) × (B.means book.new ≡ B.means book.old)) }
+        ensures kept { OnErr result (Unchanged B.means session.old session.new book.old book.new) }
         ensures order { IfErr result (λ e. e.order ≡ self) }
     {
         self.settle(session.announce(book, time, price))

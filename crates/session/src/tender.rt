@@ -3,7 +3,7 @@
 ghost use Rattle.std.specs.Prelude.{◌≡◌, ◌<◌, ◌≤◌, false, length, IfOk, OnErr, OnOk};
 ghost use Rattle.rounds.specs.Stages.{is_market};
 ghost use Rattle.lines.specs.Lines.{imbalance};
-ghost use Rattle.session.specs.State.{view, came};
+ghost use Rattle.session.specs.State.{view, came, Unchanged};
 ghost use Rattle.session.specs.Tenders.{room_check, against, supplementary_taken, row_taken, tendered, tender_outcome};
 
 use crate::session::Session;
@@ -109,7 +109,7 @@ impl<C: QuotedContract, P> Session<C, P> {
         lots: Lots,
     ) -> Result<Tendered, SessionFault>
         ensures outcome { came result (view self.new) (B.means book.new) ≡ tender_outcome C.MARGIN.0 C.LARGEST.0 (view self.old) (B.means book.old) time row side lots.0 }
-        ensures kept { OnErr result ((view self.new ≡ view self.old) × (B.means book.new ≡ B.means book.old)) }
+        ensures kept { OnErr result (Unchanged B.means self.old self.new book.old book.new) }
         ensures some { IfOk result (λ t. (1 ≤ t.lots.0) × (t.lots.0 ≤ lots.0)) }
         ensures cut { IfOk result (λ t. is_market (view self.old).period.stage ≡ false → t.lots.0 ≤ imbalance (view self.old).lines) }
     {
