@@ -55,6 +55,7 @@ impl<R: AccountRecord> MarginBook for RecordBook<R> {
         Ok(())
     }
 
+    // beside `freeze` and not one with it: what they share is `passed`, and which sum passes into which is all that is left
     fn release(&mut self, account: u32, amount: Fen) -> Result<(), BookFault> {
         let held = self.balance(account).ok_or(BookFault::Unknown)?;
         let (frozen, free) = passed(held.frozen, held.free, amount)?;
