@@ -1,12 +1,14 @@
 //! Answering a call.
 
 ghost use Rattle.std.specs.Prelude.{◌≡◌, Ok, Err, Some, None, IfOk, IfErr, MatchOption, OnErr};
-ghost use Rattle.session.specs.Measures.{reissue_outcome, announce_outcome};
+ghost use Rattle.session.specs.Measures.{suspend_outcome, reissue_outcome, announce_outcome};
+ghost use Rattle.books.specs.Accounts.{Accounts};
+ghost use Rattle.messages.specs.Calls.{said};
+ghost use Rattle.engine.specs.Answering.{AnsweredAs, MeasuredAs, said_standing};
 ghost use Rattle.session.specs.Opening.{opened};
 ghost use Rattle.session.specs.Orders.{with_order};
-ghost use Rattle.session.specs.State.{view, standing_at};
+ghost use Rattle.session.specs.State.{view, came, standing_at};
 ghost use Rattle.engine.specs.Misplaced.{misplaced_at};
-ghost use Rattle.engine.specs.Measures.{MeasuredAs};
 ghost use Rattle.engine.specs.Unchanged.{Unchanged};
 
 use crate::engine::Engine;
@@ -92,6 +94,7 @@ impl<C, P, B> Engine<C, P, B> {
 
     /// Suspends the session, unless it is suspended: then its order is in hand.
     fn suspend(&mut self, time: u32) -> Result<Standing, SessionFault>
+        ensures outcome { MatchOption self.old.held ((m : Accounts) → came result (view self.new.session) m ≡ suspend_outcome (view self.old.session) m time) (λ _. (result ≡ Err (misplaced_at time)) × (view self.new.session ≡ view self.old.session)) }
         ensures book { self.new.book ≡ self.old.book }
         ensures kept { OnErr result (view self.new.session ≡ view self.old.session) }
     {
@@ -132,7 +135,7 @@ impl<C: FixingContract, P: SharingPolicy, B: MarginBook> Engine<C, P, B> {
     }
 
     fn reissue(&mut self, time: u32, price: Ticks) -> Result<Standing, SessionFault>
-        ensures outcome { MeasuredAs self.old.held time (reissue_outcome C.QuotedContract.margin (view self.old.session) (B.MarginBook.means self.old.book) time price) result (view self.new.session) (B.MarginBook.means self.new.book) }
+        ensures outcome { MeasuredAs self.old.held time (view self.old.session) (B.MarginBook.means self.old.book) (reissue_outcome C.QuotedContract.margin (view self.old.session) (B.MarginBook.means self.old.book) time price) (said_standing result) (view self.new.session) (B.MarginBook.means self.new.book) }
         ensures kept { OnErr result (Unchanged B.MarginBook.means self.old self.new) }
     {
         let order = self.order_at(time)?;
@@ -141,7 +144,7 @@ impl<C: FixingContract, P: SharingPolicy, B: MarginBook> Engine<C, P, B> {
     }
 
     fn announce(&mut self, time: u32, price: Ticks) -> Result<Standing, SessionFault>
-        ensures outcome { MeasuredAs self.old.held time (announce_outcome C.QuotedContract.margin (view self.old.session) (B.MarginBook.means self.old.book) time price) result (view self.new.session) (B.MarginBook.means self.new.book) }
+        ensures outcome { MeasuredAs self.old.held time (view self.old.session) (B.MarginBook.means self.old.book) (announce_outcome C.QuotedContract.margin (view self.old.session) (B.MarginBook.means self.old.book) time price) (said_standing result) (view self.new.session) (B.MarginBook.means self.new.book) }
         ensures kept { OnErr result (Unchanged B.MarginBook.means self.old self.new) }
     {
         let order = self.order_at(time)?;
@@ -151,6 +154,7 @@ impl<C: FixingContract, P: SharingPolicy, B: MarginBook> Engine<C, P, B> {
 
     /// Answers a call. A refusal changes nothing.
     pub fn answer(&mut self, call: &Call) -> Result<Answer, MessageFault>
+        ensures outcome { AnsweredAs C.QuotedContract.margin C.QuotedContract.largest C.FixingContract.threshold C.FixingContract.step P.SharingPolicy.share P.SharingPolicy.told self.old.held (view self.old.session) (B.MarginBook.means self.old.book) (said call.now) result (view self.new.session) (B.MarginBook.means self.new.book) }
         ensures kept { OnErr result (Unchanged B.MarginBook.means self.old self.new) }
     {
         Ok(match *call {
