@@ -56,3 +56,8 @@ module _ {P : Type 0} where
   AnsweredAs margin largest threshold step share told o s m (reissue time price) = MeasuredAs o time s m (reissue_outcome margin s m time (record { 0 = price }))
   AnsweredAs margin largest threshold step share told o s m (announce time price) = MeasuredAs o time s m (announce_outcome margin s m time (record { 0 = price }))
   AnsweredAs margin largest threshold step share told o s m (opened metal time price rows) = Misplaced time s m
+
+  -- what a message comes to: one that does not read is refused where it was read
+  abbrev pub HeardAs : {O : Type 0} → ℕ → ℕ → ℕ → (ℕ → ℕ) → (P → ℕ → ℕ → ℕ → ℕ) → (P → ℕ → ℕ → P) → Option O → State P → Accounts → Result Said MessageFault → Result Answer MessageFault → State P → Accounts → Type 0
+  HeardAs margin largest threshold step share told o s m (Err f) r s' m' = (r ≡ Err f) × (s' ≡ s) × (m' ≡ m)
+  HeardAs margin largest threshold step share told o s m (Ok c) r s' m' = AnsweredAs margin largest threshold step share told o s m c r s' m'
