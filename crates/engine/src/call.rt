@@ -1,6 +1,6 @@
 //! Answering a call.
 
-ghost use Rattle.std.specs.Prelude.{◌≡◌, Ok, Err, Some, None, IfOk, IfErr, MatchOption, OnErr};
+ghost use Rattle.std.specs.Prelude.{◌≡◌, Ok, Err, Some, None, IfSome, IfOk, IfErr, MatchOption, OnErr};
 ghost use Rattle.session.specs.Measures.{suspend_outcome, reissue_outcome, announce_outcome};
 ghost use Rattle.books.specs.Accounts.{Accounts};
 ghost use Rattle.messages.specs.Calls.{said};
@@ -186,7 +186,8 @@ impl<C: FixingContract, P: SharingPolicy, B: MarginBook> Engine<C, P, B> {
 
     /// Announces the Offered Price at the last accepted time, if the session is suspended.
     pub fn announce_if_suspended(&mut self) -> Option<Result<Standing, SessionFault>>
-        ensures { MatchOption result ((view self.new.session ≡ view self.old.session) × (self.old.held ≡ None)) (λ a. OnErr a (view self.new.session ≡ view self.old.session)) }
+        ensures outcome { IfSome result (λ a. MeasuredAs self.old.held (view self.old.session).period.clock (view self.old.session) (B.MarginBook.means self.old.book) (announce_outcome C.QuotedContract.margin (view self.old.session) (B.MarginBook.means self.old.book) (view self.old.session).period.clock (view self.old.session).period.price) (said_standing a) (view self.new.session) (B.MarginBook.means self.new.book)) }
+        ensures kept { MatchOption result ((view self.new.session ≡ view self.old.session) × (self.old.held ≡ None)) (λ a. OnErr a (view self.new.session ≡ view self.old.session)) }
     {
         if self.held.is_none() {
             return None;
