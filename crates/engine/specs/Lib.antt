@@ -1,5 +1,5 @@
+pub mod Answering
 pub mod Fronts
-pub mod Measures
 pub mod Misplaced
 pub mod Unchanged
 pub mod Words

@@ -1,12 +1,14 @@
 //! Answering a call.
 
-ghost use Rattle.std.specs.Prelude.{◌≡◌, Ok, Err, Some, None, IfOk, IfErr, MatchOption, OnErr};
-ghost use Rattle.session.specs.Measures.{reissue_outcome, announce_outcome};
+ghost use Rattle.std.specs.Prelude.{◌≡◌, Ok, Err, Some, None, IfSome, IfOk, IfErr, MatchOption, OnErr};
+ghost use Rattle.session.specs.Measures.{suspend_outcome, reissue_outcome, announce_outcome};
+ghost use Rattle.books.specs.Accounts.{Accounts};
+ghost use Rattle.messages.specs.Calls.{said};
+ghost use Rattle.engine.specs.Answering.{AnsweredAs, MeasuredAs, said_standing};
 ghost use Rattle.session.specs.Opening.{opened};
 ghost use Rattle.session.specs.Orders.{with_order};
-ghost use Rattle.session.specs.State.{view, standing_at};
+ghost use Rattle.session.specs.State.{view, came, standing_at};
 ghost use Rattle.engine.specs.Misplaced.{misplaced_at};
-ghost use Rattle.engine.specs.Measures.{MeasuredAs};
 ghost use Rattle.engine.specs.Unchanged.{Unchanged};
 
 use crate::engine::Engine;
@@ -94,6 +96,7 @@ impl<C, P, B> Engine<C, P, B> {
 
     /// Suspends the session, unless it is suspended: then its order is in hand.
     fn suspend(&mut self, time: u32) -> Result<Standing, SessionFault>
+        ensures outcome { MatchOption self.old.held ((m : Accounts) → came result (view self.new.session) m ≡ suspend_outcome (view self.old.session) m time) (λ _. (result ≡ Err (misplaced_at time)) × (view self.new.session ≡ view self.old.session)) }
         ensures book { self.new.book ≡ self.old.book }
         ensures kept { OnErr result (view self.new.session ≡ view self.old.session) }
     {
@@ -134,8 +137,13 @@ impl<C: FixingContract, P: SharingPolicy, B: MarginBook> Engine<C, P, B> {
     }
 
     fn reissue(&mut self, time: u32, price: Ticks) -> Result<Standing, SessionFault>
+<<<<<<< HEAD
         ensures outcome { MeasuredAs self.old.held time (reissue_outcome C.MARGIN.0 (view self.old.session) (B.means self.old.book) time price) result (view self.new.session) (B.means self.new.book) }
         ensures kept { OnErr result (Unchanged B.means self.old self.new) }
+=======
+        ensures outcome { MeasuredAs self.old.held time (view self.old.session) (B.means self.old.book) (reissue_outcome C.MARGIN.0 (view self.old.session) (B.means self.old.book) time price) (said_standing result) (view self.new.session) (B.means self.new.book) }
+        ensures kept { OnErr result (Unchanged B.means self.old self.new) }
+>>>>>>> 1998cbe771f44394c748f43915e681b3fb198e9b
     {
         let order = self.order_at(time)?;
         let answer = order.reissue(&mut self.session, &mut self.book, time, price);
@@ -143,8 +151,13 @@ impl<C: FixingContract, P: SharingPolicy, B: MarginBook> Engine<C, P, B> {
     }
 
     fn announce(&mut self, time: u32, price: Ticks) -> Result<Standing, SessionFault>
+<<<<<<< HEAD
         ensures outcome { MeasuredAs self.old.held time (announce_outcome C.MARGIN.0 (view self.old.session) (B.means self.old.book) time price) result (view self.new.session) (B.means self.new.book) }
         ensures kept { OnErr result (Unchanged B.means self.old self.new) }
+=======
+        ensures outcome { MeasuredAs self.old.held time (view self.old.session) (B.means self.old.book) (announce_outcome C.MARGIN.0 (view self.old.session) (B.means self.old.book) time price) (said_standing result) (view self.new.session) (B.means self.new.book) }
+        ensures kept { OnErr result (Unchanged B.means self.old self.new) }
+>>>>>>> 1998cbe771f44394c748f43915e681b3fb198e9b
     {
         let order = self.order_at(time)?;
         let answer = order.announce(&mut self.session, &mut self.book, time, price);
@@ -153,7 +166,12 @@ impl<C: FixingContract, P: SharingPolicy, B: MarginBook> Engine<C, P, B> {
 
     /// Answers a call. A refusal changes nothing.
     pub fn answer(&mut self, call: &Call) -> Result<Answer, MessageFault>
+<<<<<<< HEAD
         ensures kept { OnErr result (Unchanged B.means self.old self.new) }
+=======
+        ensures outcome { AnsweredAs C.MARGIN.0 C.LARGEST.0 C.THRESHOLD.0 C.step P.share P.told self.old.held (view self.old.session) (B.means self.old.book) (said call.now) result (view self.new.session) (B.means self.new.book) }
+        ensures kept { OnErr result (Unchanged B.means self.old self.new) }
+>>>>>>> 1998cbe771f44394c748f43915e681b3fb198e9b
     {
         Ok(match *call {
             Call::Quote { time, row, price } => Answer::Standing(
@@ -184,7 +202,8 @@ impl<C: FixingContract, P: SharingPolicy, B: MarginBook> Engine<C, P, B> {
 
     /// Announces the Offered Price at the last accepted time, if the session is suspended.
     pub fn announce_if_suspended(&mut self) -> Option<Result<Standing, SessionFault>>
-        ensures { MatchOption result ((view self.new.session ≡ view self.old.session) × (self.old.held ≡ None)) (λ a. OnErr a (view self.new.session ≡ view self.old.session)) }
+        ensures outcome { IfSome result (λ a. MeasuredAs self.old.held (view self.old.session).period.clock (view self.old.session) (B.means self.old.book) (announce_outcome C.MARGIN.0 (view self.old.session) (B.means self.old.book) (view self.old.session).period.clock (view self.old.session).period.price) (said_standing a) (view self.new.session) (B.means self.new.book)) }
+        ensures kept { MatchOption result ((view self.new.session ≡ view self.old.session) × (self.old.held ≡ None)) (λ a. OnErr a (view self.new.session ≡ view self.old.session)) }
     {
         if self.held.is_none() {
             return None;

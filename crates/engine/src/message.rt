@@ -2,8 +2,10 @@
 
 ghost use Rattle.std.specs.Prelude.{◌≡◌, ◌<◌, ◌≤◌, length, Err, OnErr};
 ghost use Rattle.messages.specs.Answers.{answer_words};
-ghost use Rattle.messages.specs.Reading.{verb_named};
+ghost use Rattle.messages.specs.Reading.{verb_named, reading};
 ghost use Rattle.messages.specs.declared.faults.MessageFault.TheVariants.{Short};
+ghost use Rattle.session.specs.State.{view};
+ghost use Rattle.engine.specs.Answering.{HeardAs};
 ghost use Rattle.engine.specs.Fronts.{fronted};
 ghost use Rattle.engine.specs.Unchanged.{Unchanged};
 
@@ -26,6 +28,7 @@ fn put(out: &mut [u32], words: [u32; 2])
 impl<C: FixingContract, P: SharingPolicy, B: MarginBook> Engine<C, P, B> {
     /// Answers the call that a message makes.
     pub fn hear(&mut self, message: &[u32]) -> Result<Answer, MessageFault>
+        ensures outcome { HeardAs C.MARGIN.0 C.LARGEST.0 C.THRESHOLD.0 C.step P.share P.told self.old.held (view self.old.session) (B.means self.old.book) (reading message.now) result (view self.new.session) (B.means self.new.book) }
         ensures kept { OnErr result (Unchanged B.means self.old self.new) }
     {
         let call = read(message)?;
@@ -38,6 +41,7 @@ impl<C: FixingContract, P: SharingPolicy, B: MarginBook> Engine<C, P, B> {
         message: &[u32],
         out: &mut [u32],
     ) -> Result<Answer, MessageFault>
+        ensures outcome { 2 ≤ length out.old → HeardAs C.MARGIN.0 C.LARGEST.0 C.THRESHOLD.0 C.step P.share P.told self.old.held (view self.old.session) (B.means self.old.book) (reading message.now) result (view self.new.session) (B.means self.new.book) }
         ensures kept { OnErr result (Unchanged B.means self.old self.new) }
         ensures short { length out.old < 2 → (result ≡ Err Short) × (out.new ≡ out.old) }
         ensures words { 2 ≤ length out.old → out.new ≡ fronted out.old (answer_words result (verb_named message.now)) }

@@ -41,6 +41,7 @@ impl From<SessionFault> for MessageFault {
 
 impl MessageFault {
     /// The number of the refusal.
+    // by name: `u32::from` would not say what the number is, and variants that carry a value have none of their own
     pub fn number(self) -> u32
         ensures { result ≡ number_of self }
     {

@@ -39,6 +39,7 @@ pub enum Kind {
 
 impl Kind {
     /// The number of the kind.
+    // by name: `u32::from` would not say what the number is
     pub fn number(self) -> u32
         ensures { result ≡ kind_number self }
     {

@@ -11,6 +11,7 @@ use participants::rows::Listed;
 /// A row of an `Open`: a participant and its free millions of fen.
 #[derive(Clone, Copy, PartialEq, Eq, Debug)]
 pub struct OpenRow {
+    // a number, and not a kind: a message with a wrong one is written again as it came
     pub kind: u32,
     pub carrier: u32,
     pub millions: u32,

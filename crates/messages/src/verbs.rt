@@ -74,6 +74,7 @@ fn find(first: &[Kind], again: &[Kind], kind: Kind) -> Option<usize>
 
 impl Verb {
     /// The number of the verb.
+    // by name: `u32::from` would not say what the number is
     pub fn number(self) -> u32
         ensures { result ≡ verb_number self }
     {
