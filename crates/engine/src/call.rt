@@ -137,13 +137,8 @@ impl<C: FixingContract, P: SharingPolicy, B: MarginBook> Engine<C, P, B> {
     }
 
     fn reissue(&mut self, time: u32, price: Ticks) -> Result<Standing, SessionFault>
-<<<<<<< HEAD
-        ensures outcome { MeasuredAs self.old.held time (reissue_outcome C.MARGIN.0 (view self.old.session) (B.means self.old.book) time price) result (view self.new.session) (B.means self.new.book) }
-        ensures kept { OnErr result (Unchanged B.means self.old self.new) }
-=======
         ensures outcome { MeasuredAs self.old.held time (view self.old.session) (B.means self.old.book) (reissue_outcome C.MARGIN.0 (view self.old.session) (B.means self.old.book) time price) (said_standing result) (view self.new.session) (B.means self.new.book) }
         ensures kept { OnErr result (Unchanged B.means self.old self.new) }
->>>>>>> 1998cbe771f44394c748f43915e681b3fb198e9b
     {
         let order = self.order_at(time)?;
         let answer = order.reissue(&mut self.session, &mut self.book, time, price);
@@ -151,13 +146,8 @@ impl<C: FixingContract, P: SharingPolicy, B: MarginBook> Engine<C, P, B> {
     }
 
     fn announce(&mut self, time: u32, price: Ticks) -> Result<Standing, SessionFault>
-<<<<<<< HEAD
-        ensures outcome { MeasuredAs self.old.held time (announce_outcome C.MARGIN.0 (view self.old.session) (B.means self.old.book) time price) result (view self.new.session) (B.means self.new.book) }
-        ensures kept { OnErr result (Unchanged B.means self.old self.new) }
-=======
         ensures outcome { MeasuredAs self.old.held time (view self.old.session) (B.means self.old.book) (announce_outcome C.MARGIN.0 (view self.old.session) (B.means self.old.book) time price) (said_standing result) (view self.new.session) (B.means self.new.book) }
         ensures kept { OnErr result (Unchanged B.means self.old self.new) }
->>>>>>> 1998cbe771f44394c748f43915e681b3fb198e9b
     {
         let order = self.order_at(time)?;
         let answer = order.announce(&mut self.session, &mut self.book, time, price);
@@ -166,12 +156,8 @@ impl<C: FixingContract, P: SharingPolicy, B: MarginBook> Engine<C, P, B> {
 
     /// Answers a call. A refusal changes nothing.
     pub fn answer(&mut self, call: &Call) -> Result<Answer, MessageFault>
-<<<<<<< HEAD
-        ensures kept { OnErr result (Unchanged B.means self.old self.new) }
-=======
         ensures outcome { AnsweredAs C.MARGIN.0 C.LARGEST.0 C.THRESHOLD.0 C.step P.share P.told self.old.held (view self.old.session) (B.means self.old.book) (said call.now) result (view self.new.session) (B.means self.new.book) }
         ensures kept { OnErr result (Unchanged B.means self.old self.new) }
->>>>>>> 1998cbe771f44394c748f43915e681b3fb198e9b
     {
         Ok(match *call {
             Call::Quote { time, row, price } => Answer::Standing(
