@@ -1,9 +1,7 @@
 //! Tenders for accounts that the book does not know, and for the last ones that it does.
 
 use crate::expected::{holds, is_unknown, refused, taken};
-use crate::setup::{
-    BEGUN, CUSTOMER, bank_line, bank_line_book, cash_book, free, gold, held, tender,
-};
+use crate::setup::{BEGUN, CUSTOMER, bank_line, book_of, free, gold, held, tender};
 use crate::tally::Tally;
 use rounds::sides::Side;
 use std::alloc::Global;
@@ -14,7 +12,7 @@ const MOST: u64 = 4_000_000_000_000_000_000;
 /// The book ends before the customer's row. A lot at 100 asks 100 × 60 = 6,000 fen.
 fn a_row_without_an_account(heap: Global) -> Option<bool> {
     let mut session = gold(heap, 100)?;
-    let mut book = cash_book(heap, &[free(0), free(0), free(6_000)])?;
+    let mut book = book_of(heap, &[free(0), free(0), free(6_000)])?;
     Some(
         is_unknown(&book, CUSTOMER)
             && refused(
@@ -40,7 +38,7 @@ fn cash_above_the_most(heap: Global) -> Option<bool> {
         held(0, MOST + 1),
         held(u64::MAX, u64::MAX),
     ];
-    let mut book = cash_book(heap, &accounts)?;
+    let mut book = book_of(heap, &accounts)?;
     Some(
         refused(tender(Side::Sell, &mut session, &mut book, BEGUN, 1, 1), 31)
             && refused(tender(Side::Sell, &mut session, &mut book, BEGUN, 2, 1), 31)
@@ -67,7 +65,7 @@ fn bank_lines_above_the_most(heap: Global) -> Option<bool> {
         bank_line(6_000, 6_001),
         bank_line(6_000, 6_000),
     ];
-    let mut book = bank_line_book(heap, &accounts)?;
+    let mut book = book_of(heap, &accounts)?;
     Some(
         refused(tender(Side::Buy, &mut session, &mut book, BEGUN, 1, 1), 31)
             && refused(tender(Side::Buy, &mut session, &mut book, BEGUN, 2, 1), 31)
@@ -87,6 +85,7 @@ fn bank_lines_above_the_most(heap: Global) -> Option<bool> {
 }
 
 /// Plays the trials of this file.
+// call by call: a table of the trials would be function pointers that are handed out
 pub fn play(tally: &mut Tally) -> anyhow::Result<()> {
     tally.play("a_row_without_an_account", a_row_without_an_account)?;
     tally.play("cash_above_the_most", cash_above_the_most)?;

@@ -2,7 +2,7 @@
 
 use crate::expected::{fill, filled, holds, is_at, refused, stands, taken};
 use crate::setup::{
-    BEGUN, CLOSED, CUSTOMER, OPENED, ROSTER, ROUND_OVER, cash_book, free, market, tender,
+    BEGUN, CLOSED, CUSTOMER, OPENED, ROSTER, ROUND_OVER, book_of, free, market, tender,
 };
 use crate::tally::Tally;
 use contracts::shag::Shag;
@@ -42,7 +42,7 @@ fn limits_at_an_opening(heap: Global) -> Option<bool> {
 /// A lot is 6,000 fen.
 fn one_line(heap: Global) -> Option<bool> {
     let mut session: Session<Shau, ByTurn> = market(heap, 100, 1, ByTurn { start: 0 })?;
-    let mut book = cash_book(heap, &[free(12_000), free(12_000)])?;
+    let mut book = book_of(heap, &[free(12_000), free(12_000)])?;
     Some(
         taken(
             tender(Side::Buy, &mut session, &mut book, BEGUN, 0, 1),
@@ -69,7 +69,7 @@ fn one_line(heap: Global) -> Option<bool> {
 /// A supplementary tender finds no room, after the side is checked. The lot that remains is shared: row 0 sells it.
 fn one_line_in_the_supplementary_period(heap: Global) -> Option<bool> {
     let mut session: Session<Shau, ByTurn> = market(heap, 100, 1, ByTurn { start: 0 })?;
-    let mut book = cash_book(heap, &[free(6_000), free(6_000)])?;
+    let mut book = book_of(heap, &[free(6_000), free(6_000)])?;
     Some(
         taken(
             tender(Side::Buy, &mut session, &mut book, BEGUN, 0, 1),
@@ -96,7 +96,8 @@ fn one_line_in_the_supplementary_period(heap: Global) -> Option<bool> {
 fn all_4096_lines(heap: Global) -> Option<bool> {
     let sum = 245_759_606_784_000_000;
     let mut session: Session<Shag, TableOrder> = market(heap, 9_999_984, 4_096, TableOrder)?;
-    let mut book = cash_book(heap, &[free(sum)])?;
+    let mut book = book_of(heap, &[free(sum)])?;
+    // a tender a line, with no list to go over
     for line in 0..4_096 {
         let answer = tender(Side::Buy, &mut session, &mut book, BEGUN, 0, 40_000);
         if !taken(answer, line, 40_000) {
@@ -125,6 +126,7 @@ fn all_4096_lines(heap: Global) -> Option<bool> {
 }
 
 /// Plays the trials of this file.
+// call by call: a table of the trials would be function pointers that are handed out
 pub fn play(tally: &mut Tally) -> anyhow::Result<()> {
     tally.play("limits_at_an_opening", limits_at_an_opening)?;
     tally.play("one_line", one_line)?;

@@ -1,9 +1,7 @@
 //! Tenders at the edge of what an account has free.
 
 use crate::expected::{holds, refused, stands, taken};
-use crate::setup::{
-    BEGUN, CLOSED, CUSTOMER, bank_line, bank_line_book, cash_book, free, gold, held, tender,
-};
+use crate::setup::{BEGUN, CLOSED, CUSTOMER, bank_line, book_of, free, gold, held, tender};
 use crate::tally::Tally;
 use books::book::MarginBook;
 use rounds::sides::Side;
@@ -32,13 +30,13 @@ fn a_fen_decides<B: MarginBook + Drop>(heap: Global, mut book: B) -> Option<bool
 }
 
 fn a_fen_in_a_cash_book(heap: Global) -> Option<bool> {
-    a_fen_decides(heap, cash_book(heap, &[held(59_999, 7), held(60_000, 7)])?)
+    a_fen_decides(heap, book_of(heap, &[held(59_999, 7), held(60_000, 7)])?)
 }
 
 fn a_fen_on_a_bank_line(heap: Global) -> Option<bool> {
     a_fen_decides(
         heap,
-        bank_line_book(heap, &[bank_line(60_006, 7), bank_line(60_007, 7)])?,
+        book_of(heap, &[bank_line(60_006, 7), bank_line(60_007, 7)])?,
     )
 }
 
@@ -46,7 +44,7 @@ fn a_fen_on_a_bank_line(heap: Global) -> Option<bool> {
 /// row 0 has a fen less than their margin, row 1 just that.
 fn a_fen_in_the_supplementary_period(heap: Global) -> Option<bool> {
     let mut session = gold(heap, 100)?;
-    let mut book = cash_book(heap, &[free(17_999), free(18_000), free(0), free(18_000)])?;
+    let mut book = book_of(heap, &[free(17_999), free(18_000), free(0), free(18_000)])?;
     Some(
         taken(
             tender(Side::Buy, &mut session, &mut book, BEGUN, CUSTOMER, 3),
@@ -72,6 +70,7 @@ fn a_fen_in_the_supplementary_period(heap: Global) -> Option<bool> {
 }
 
 /// Plays the trials of this file.
+// call by call: a table of the trials would be function pointers that are handed out
 pub fn play(tally: &mut Tally) -> anyhow::Result<()> {
     tally.play("a_fen_in_a_cash_book", a_fen_in_a_cash_book)?;
     tally.play("a_fen_on_a_bank_line", a_fen_on_a_bank_line)?;

@@ -1,9 +1,7 @@
 //! Two sessions over one book: the account of a row is the same in both.
 
 use crate::expected::{holds, is_at, refused, stands, taken};
-use crate::setup::{
-    BEGUN, CUSTOMER, bank_line, bank_line_book, cash_book, free, gold, silver, tender,
-};
+use crate::setup::{BEGUN, CUSTOMER, bank_line, book_of, free, gold, silver, tender};
 use crate::suspension::{Suspended, spent, suspend};
 use crate::tally::Tally;
 use measures::{Lots, Ticks};
@@ -16,7 +14,7 @@ use std::alloc::Global;
 fn what_one_freezes_the_other_cannot(heap: Global) -> Option<bool> {
     let mut gold = gold(heap, 100)?;
     let mut silver = silver(heap, 100)?;
-    let mut book = cash_book(heap, &[free(0), free(0), free(0), free(75_000)])?;
+    let mut book = book_of(heap, &[free(0), free(0), free(0), free(75_000)])?;
     Some(
         taken(
             tender(Side::Buy, &mut gold, &mut book, BEGUN, CUSTOMER, 10),
@@ -62,7 +60,7 @@ fn what_one_freezes_the_other_cannot(heap: Global) -> Option<bool> {
 fn a_measure_releases_its_own_session_only(heap: Global) -> Option<bool> {
     let mut gold = gold(heap, 100)?;
     let mut silver = silver(heap, 100)?;
-    let mut book = bank_line_book(heap, &[bank_line(75_000, 0)])?;
+    let mut book = book_of(heap, &[bank_line(75_000, 0)])?;
     let drawn = taken(tender(Side::Buy, &mut gold, &mut book, BEGUN, 0, 10), 0, 10)
         && taken(tender(Side::Buy, &mut silver, &mut book, BEGUN, 0, 1), 0, 1)
         && refused(tender(Side::Buy, &mut silver, &mut book, BEGUN, 0, 4), 32);
@@ -79,6 +77,7 @@ fn a_measure_releases_its_own_session_only(heap: Global) -> Option<bool> {
 }
 
 /// Plays the trials of this file.
+// call by call: a table of the trials would be function pointers that are handed out
 pub fn play(tally: &mut Tally) -> anyhow::Result<()> {
     tally.play(
         "what_one_freezes_the_other_cannot",

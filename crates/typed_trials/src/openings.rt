@@ -55,6 +55,7 @@ fn a_beginning_at_executed_prices(heap: Global) -> Option<bool> {
 }
 
 /// Plays the trials of this file.
+// call by call: a table of the trials would be function pointers that are handed out
 pub fn play(tally: &mut Tally) -> anyhow::Result<()> {
     tally.play(
         "a_refused_opening_hands_its_policy_back",

@@ -1,9 +1,11 @@
 //! Measures that are refused: the suspension order comes back each time, until one is accepted.
 
 use crate::expected::{holds, is_at, refused, taken};
-use crate::setup::{BEGUN, CUSTOMER, bank_line, bank_line_book, cash_book, free, silver, tender};
+use crate::setup::{BEGUN, CUSTOMER, bank_line, book_of, free, silver, tender};
 use crate::suspension::{Suspended, handed_back, spent, suspend};
 use crate::tally::Tally;
+use books::balance::Balance;
+use books::bank_line::BankLine;
 use books::book::MarginBook;
 use contracts::shag::Shag;
 use measures::{Fen, Lots, Ticks};
@@ -31,7 +33,7 @@ fn suspended_silver<B: MarginBook>(
 /// Another hand releases a fen of the customer's: both measures are refused, and row 1's money is not released either. Once
 /// the fen is frozen again, the session is reissued at 90; a lot then asks 90 × 150 = 13,500 fen.
 fn a_reissue_after_another_hand(heap: Global) -> Option<bool> {
-    let mut book = cash_book(heap, &[free(0), free(60_000), free(0), free(150_000)])?;
+    let mut book = book_of(heap, &[free(0), free(60_000), free(0), free(150_000)])?;
     let Suspended { mut session, order } = suspended_silver(heap, &mut book)?;
     let released = book.release(CUSTOMER, Fen(1)).is_ok();
     let answer = order.reissue(&mut session, &mut book, BEGUN + 7, Ticks(90));
@@ -72,8 +74,8 @@ fn a_reissue_after_another_hand(heap: Global) -> Option<bool> {
 fn an_announcement_after_another_hand(heap: Global) -> Option<bool> {
     let none = bank_line(0, 0);
     let lines = [none, bank_line(60_000, 0), none, bank_line(150_000, 0)];
-    let mut book = bank_line_book(heap, &lines)?;
-    let mut empty = bank_line_book(heap, &[])?;
+    let mut book = book_of(heap, &lines)?;
+    let mut empty = book_of::<BankLine>(heap, &[])?;
     let Suspended { mut session, order } = suspended_silver(heap, &mut book)?;
     let answer = order.reissue(&mut session, &mut empty, BEGUN + 5, Ticks(95));
     let (unknown, order) = handed_back(answer, 31)?;
@@ -105,6 +107,7 @@ fn in_the_last_round<B: MarginBook>(
     book: &mut B,
 ) -> Option<Session<Shag, TableOrder>> {
     let mut session = silver(heap, 100)?;
+    // as often as there are rounds left, with no list to go over
     for _ in 1..64 {
         let Suspended {
             session: mut suspended,
@@ -119,8 +122,8 @@ fn in_the_last_round<B: MarginBook>(
 
 /// In round 64 a reissue is refused 33 before the book is asked; an announcement asks it (31). A lot is 15,000 fen.
 fn the_last_round_before_the_book(heap: Global) -> Option<bool> {
-    let mut book = cash_book(heap, &[free(15_000)])?;
-    let mut empty = cash_book(heap, &[])?;
+    let mut book = book_of(heap, &[free(15_000)])?;
+    let mut empty = book_of::<Balance>(heap, &[])?;
     let mut session = in_the_last_round(heap, &mut book)?;
     let tendered = taken(
         tender(Side::Sell, &mut session, &mut book, BEGUN, 0, 1),
@@ -146,6 +149,7 @@ fn the_last_round_before_the_book(heap: Global) -> Option<bool> {
 }
 
 /// Plays the trials of this file.
+// call by call: a table of the trials would be function pointers that are handed out
 pub fn play(tally: &mut Tally) -> anyhow::Result<()> {
     tally.play("a_reissue_after_another_hand", a_reissue_after_another_hand)?;
     tally.play(

@@ -1,8 +1,9 @@
 //! Reductions over a book that another hand writes to.
 
 use crate::expected::{holds, is_at, refused, stands, taken};
-use crate::setup::{BEGUN, CLOSED, CUSTOMER, ROUND_OVER, cash_book, free, gold, silver, tender};
+use crate::setup::{BEGUN, CLOSED, CUSTOMER, ROUND_OVER, book_of, free, gold, silver, tender};
 use crate::tally::Tally;
+use books::balance::Balance;
 use books::book::MarginBook;
 use measures::{Fen, Lots};
 use rounds::sides::Side;
@@ -13,7 +14,7 @@ use std::alloc::Global;
 /// than that frozen, and then freezes it again.
 fn a_reduction_after_another_hand(heap: Global) -> Option<bool> {
     let mut session = silver(heap, 100)?;
-    let mut book = cash_book(heap, &[free(0), free(0), free(0), free(150_000)])?;
+    let mut book = book_of(heap, &[free(0), free(0), free(0), free(150_000)])?;
     Some(
         taken(
             tender(Side::Buy, &mut session, &mut book, BEGUN, CUSTOMER, 10),
@@ -43,8 +44,8 @@ fn a_reduction_after_another_hand(heap: Global) -> Option<bool> {
 /// The reduction is lent another book than the tender was, one without accounts.
 fn a_reduction_in_an_empty_book(heap: Global) -> Option<bool> {
     let mut session = silver(heap, 100)?;
-    let mut book = cash_book(heap, &[free(15_000)])?;
-    let mut empty = cash_book(heap, &[])?;
+    let mut book = book_of(heap, &[free(15_000)])?;
+    let mut empty = book_of::<Balance>(heap, &[])?;
     Some(
         taken(
             tender(Side::Sell, &mut session, &mut book, BEGUN, 0, 1),
@@ -65,7 +66,7 @@ fn a_reduction_in_an_empty_book(heap: Global) -> Option<bool> {
 /// more at 110: 10 × 110 × 60 = 66,000 fen. Reducing these releases so much; the line of round 1 cannot be reduced.
 fn a_reduction_at_the_tendered_price(heap: Global) -> Option<bool> {
     let mut session = gold(heap, 100)?;
-    let mut book = cash_book(heap, &[free(0), free(366_000), free(0), free(3_000_000)])?;
+    let mut book = book_of(heap, &[free(0), free(366_000), free(0), free(3_000_000)])?;
     Some(
         taken(
             tender(Side::Buy, &mut session, &mut book, BEGUN, CUSTOMER, 500),
@@ -95,6 +96,7 @@ fn a_reduction_at_the_tendered_price(heap: Global) -> Option<bool> {
 }
 
 /// Plays the trials of this file.
+// call by call: a table of the trials would be function pointers that are handed out
 pub fn play(tally: &mut Tally) -> anyhow::Result<()> {
     tally.play(
         "a_reduction_after_another_hand",

@@ -2,9 +2,10 @@
 
 use crate::expected::stands;
 use books::balance::Balance;
-use books::bank_line::{BankLine, BankLineBook};
+use books::bank_line::BankLine;
 use books::book::MarginBook;
-use books::cash::CashBook;
+use books::record::AccountRecord;
+use books::record_book::RecordBook;
 use contracts::quoted::QuotedContract;
 use contracts::shag::Shag;
 use contracts::shau::Shau;
@@ -140,10 +141,10 @@ pub fn free(sum: u64) -> Balance {
     held(sum, 0)
 }
 
-/// A cash book of these accounts.
-pub fn cash_book(heap: Global, accounts: &[Balance]) -> Option<CashBook> {
+/// A book of these accounts.
+pub fn book_of<R: AccountRecord>(heap: Global, accounts: &[R]) -> Option<RecordBook<R>> {
     let accounts = accounts.to_vec(heap).ok()?;
-    Some(CashBook::new(accounts))
+    Some(RecordBook::new(accounts))
 }
 
 /// A bank's line, and what is drawn on it.
@@ -152,10 +153,4 @@ pub fn bank_line(line: u64, drawn: u64) -> BankLine {
         line: Fen(line),
         drawn: Fen(drawn),
     }
-}
-
-/// A bank-line book of these accounts.
-pub fn bank_line_book(heap: Global, accounts: &[BankLine]) -> Option<BankLineBook> {
-    let accounts = accounts.to_vec(heap).ok()?;
-    Some(BankLineBook::new(accounts))
 }

@@ -2,7 +2,7 @@
 
 use crate::expected::{fill, filled, holds, is_at, refused, stands, taken};
 use crate::setup::{
-    BEGUN, CLOSED, CUSTOMER, LIMIT, ROUND_OVER, cash_book, free, quoting, silver, tender,
+    BEGUN, CLOSED, CUSTOMER, LIMIT, ROUND_OVER, book_of, free, quoting, silver, tender,
 };
 use crate::suspension::{Suspended, spent, suspend};
 use crate::tally::Tally;
@@ -20,7 +20,7 @@ use std::alloc::Global;
 /// 10, so the session halts.
 fn no_sheet_without_a_fix(heap: Global) -> Option<bool> {
     let mut session: Session<Shau, ByTurn> = quoting(heap, 10, LIMIT, ByTurn { start: 0 })?;
-    let mut book = cash_book(heap, &[free(240_600)])?;
+    let mut book = book_of(heap, &[free(240_600)])?;
     let halted = refused(session.sheet(), 20)
         && stands(session.begin(BEGUN, &Prices::Typed(&[])), Stage::Market, 10)
         && refused(session.sheet(), 20)
@@ -66,7 +66,7 @@ fn is_level<C, P>(session: &Session<C, P>) -> bool {
 /// freeze nothing.
 fn the_sheet_of_a_fix(heap: Global) -> Option<bool> {
     let mut session = silver(heap, 100)?;
-    let mut book = cash_book(heap, &[free(90_000), free(90_000), free(0), free(90_000)])?;
+    let mut book = book_of(heap, &[free(90_000), free(90_000), free(0), free(90_000)])?;
     Some(
         taken(
             tender(Side::Buy, &mut session, &mut book, BEGUN, CUSTOMER, 6),
@@ -98,6 +98,7 @@ fn the_sheet_of_a_fix(heap: Global) -> Option<bool> {
 }
 
 /// Plays the trials of this file.
+// call by call: a table of the trials would be function pointers that are handed out
 pub fn play(tally: &mut Tally) -> anyhow::Result<()> {
     tally.play("no_sheet_without_a_fix", no_sheet_without_a_fix)?;
     tally.play("the_sheet_of_a_fix", the_sheet_of_a_fix)
