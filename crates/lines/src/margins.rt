@@ -12,6 +12,5 @@ pub fn margin_of<C: QuotedContract>(lots: Lots, price: Ticks) -> Fen
     ensures value { result.0 ≡ min (amount C.MARGIN.0 lots.0 price.0) (2 ^ 64 - 1) }
     ensures fits { lots.0 ≤ 40000 → price.0 ≤ 10000000 → result.0 ≡ amount C.MARGIN.0 lots.0 price.0 }
 {
-    lots.amount(price, C::MARGIN)
-        .unwrap_or(Fen(u64::MAX))
+    lots.amount(price, C::MARGIN).unwrap_or(Fen(u64::MAX))
 }
