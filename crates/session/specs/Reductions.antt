@@ -30,8 +30,8 @@ module _ {P : Type 0} where
   own_line s row line lots = line_off s row lots (line_at s.lines line)
 
   -- whether lots can be taken off lines
-  abbrev pub reduce_check : State P → ℕ → Check
-  reduce_check s time =
+  abbrev pub may_reduce : State P → ℕ → Check
+  may_reduce s time =
       then_ok (admitted (is_market s.period.stage) s.period time)
       (in_time s.period.ends time)
 
@@ -44,7 +44,7 @@ module _ {P : Type 0} where
 
   -- the line that the lots come off, or the first of the session's own reasons to refuse
   abbrev pub reducible : ℕ → State P → ℕ → ℕ → ℕ → ℕ → Result Line SessionFault
-  reducible largest s time row line lots = then_ok (reduce_check s time) (row_line largest s row line lots)
+  reducible largest s time row line lots = then_ok (may_reduce s time) (row_line largest s row line lots)
 
   abbrev pub reduced_state : State P → ℕ → ℕ → ℕ → State P
   reduced_state s time line lots = with_period (with_lines s (slice_set s.lines line (reduced (slice_index_or s.lines line no_line) lots))) (clocked s.period time)

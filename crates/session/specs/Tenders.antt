@@ -23,13 +23,13 @@ abbrev pub fixing_may : Kind → Check
 fixing_may kind = cond (is_fixing kind) (Ok tt) (Err WrongKind)
 
 -- in the market period a tender is taken whole
-abbrev pub market_taken : ℕ → ℕ → Result Lots SessionFault
-market_taken largest lots = then_ok (lots_fit largest lots) (Ok (record { 0 = lots }))
+abbrev pub market_lots : ℕ → ℕ → Result Lots SessionFault
+market_lots largest lots = then_ok (lots_fit largest lots) (Ok (record { 0 = lots }))
 
 module _ {P : Type 0} where
   -- whether tenders are taken
-  abbrev pub tender_check : State P → ℕ → Check
-  tender_check s time =
+  abbrev pub may_tender : State P → ℕ → Check
+  may_tender s time =
       then_ok (admitted (is_market s.period.stage || is_supplementary s.period.stage) s.period time)
       (in_time s.period.ends time)
 
@@ -38,29 +38,29 @@ module _ {P : Type 0} where
   room_check s = cond (nat_le s.limit (length s.lines)) (Err LinesUsedUp) (Ok tt)
 
   -- in the supplementary period it stands against the excess, and is cut to what remains
-  abbrev pub remains_of : State P → ℕ → Result Lots SessionFault
-  remains_of s lots = cond (imbalance s.lines == 0) (Err NothingRemains) (Ok (record { 0 = min lots (imbalance s.lines) }))
+  abbrev pub remaining_lots : State P → ℕ → Result Lots SessionFault
+  remaining_lots s lots = cond (imbalance s.lines == 0) (Err NothingRemains) (Ok (record { 0 = min lots (imbalance s.lines) }))
 
-  abbrev pub against : State P → Side → ℕ → Result Lots SessionFault
-  against s side lots = cond (same_side side (other s.period.excess.side)) (remains_of s lots) (Err WrongSide)
+  abbrev pub excess_lots : State P → Side → ℕ → Result Lots SessionFault
+  excess_lots s side lots = cond (same_side side (other s.period.excess.side)) (remaining_lots s lots) (Err WrongSide)
 
-  abbrev pub supplementary_taken : ℕ → State P → Kind → Side → ℕ → Result Lots SessionFault
-  supplementary_taken largest s kind side lots =
+  abbrev pub supplementary_lots : ℕ → State P → Kind → Side → ℕ → Result Lots SessionFault
+  supplementary_lots largest s kind side lots =
       then_ok (fixing_may kind)
       (then_ok (lots_fit largest lots)
-      (against s side lots))
+      (excess_lots s side lots))
 
   -- the lots taken of a row's tender, while tenders are taken
-  abbrev pub row_taken : ℕ → State P → ℕ → Side → ℕ → Result Lots SessionFault
-  row_taken largest s row side lots =
+  abbrev pub row_lots : ℕ → State P → ℕ → Side → ℕ → Result Lots SessionFault
+  row_lots largest s row side lots =
       given (kind_at s.rows row) (λ kind.
-      cond (is_market s.period.stage) (market_taken largest lots) (supplementary_taken largest s kind side lots))
+      cond (is_market s.period.stage) (market_lots largest lots) (supplementary_lots largest s kind side lots))
 
   -- the lots taken, or the first of the session's own reasons to refuse: want of room for a line is the last
   abbrev pub lots_taken : ℕ → State P → ℕ → ℕ → Side → ℕ → Result Lots SessionFault
   lots_taken largest s time row side lots =
-      then_ok (tender_check s time)
-      (given (row_taken largest s row side lots) (λ n.
+      then_ok (may_tender s time)
+      (given (row_lots largest s row side lots) (λ n.
       then_ok (room_check s) (Ok n)))
 
   -- the line of an accepted tender

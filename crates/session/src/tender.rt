@@ -4,7 +4,7 @@ ghost use Rattle.std.specs.Prelude.{◌≡◌, ◌<◌, ◌≤◌, false, length
 ghost use Rattle.rounds.specs.Stages.{is_market};
 ghost use Rattle.lines.specs.Lines.{imbalance};
 ghost use Rattle.session.specs.State.{view, came, Unchanged};
-ghost use Rattle.session.specs.Tenders.{room_check, against, supplementary_taken, row_taken, tendered, tender_outcome};
+ghost use Rattle.session.specs.Tenders.{room_check, excess_lots, supplementary_lots, row_lots, tendered, tender_outcome};
 
 use crate::session::Session;
 use books::book::MarginBook;
@@ -33,8 +33,8 @@ impl<C: QuotedContract, P> Session<C, P> {
     }
 
     /// What is taken of a supplementary tender: it goes against the excess, and is cut to what remains of it.
-    fn against_excess(&self, side: Side, lots: Lots) -> Result<Lots, SessionFault>
-        ensures answer { result ≡ against (view self.now) side lots.0 }
+    fn excess_lots(&self, side: Side, lots: Lots) -> Result<Lots, SessionFault>
+        ensures answer { result ≡ excess_lots (view self.now) side lots.0 }
         ensures some { IfOk result (λ n. (1 ≤ lots.0 → 1 ≤ n.0) × (n.0 ≤ lots.0)) }
         ensures cut { IfOk result (λ n. n.0 ≤ imbalance (view self.now).lines) }
     {
@@ -48,8 +48,8 @@ impl<C: QuotedContract, P> Session<C, P> {
         Ok(lots.min(remaining))
     }
 
-    fn supplementary_taken(&self, kind: Kind, side: Side, lots: Lots) -> Result<Lots, SessionFault>
-        ensures answer { result ≡ supplementary_taken C.LARGEST.0 (view self.now) kind side lots.0 }
+    fn supplementary_lots(&self, kind: Kind, side: Side, lots: Lots) -> Result<Lots, SessionFault>
+        ensures answer { result ≡ supplementary_lots C.LARGEST.0 (view self.now) kind side lots.0 }
         ensures some { IfOk result (λ n. (1 ≤ n.0) × (n.0 ≤ lots.0)) }
         ensures most { OnOk result (lots.0 ≤ 40000) }
         ensures cut { IfOk result (λ n. n.0 ≤ imbalance (view self.now).lines) }
@@ -58,12 +58,12 @@ impl<C: QuotedContract, P> Session<C, P> {
             return Err(SessionFault::WrongKind);
         }
         check_lots(lots, C::LARGEST)?;
-        self.against_excess(side, lots)
+        self.excess_lots(side, lots)
     }
 
     /// What is taken of a row's tender, while tenders are taken.
-    fn lots_taken(&self, row: u32, side: Side, lots: Lots) -> Result<Lots, SessionFault>
-        ensures answer { result ≡ row_taken C.LARGEST.0 (view self.now) row side lots.0 }
+    fn row_lots(&self, row: u32, side: Side, lots: Lots) -> Result<Lots, SessionFault>
+        ensures answer { result ≡ row_lots C.LARGEST.0 (view self.now) row side lots.0 }
         ensures row { OnOk result (row < length (view self.now).rows) }
         ensures some { IfOk result (λ n. (1 ≤ n.0) × (n.0 ≤ lots.0) × (n.0 ≤ 40000)) }
         ensures cut { IfOk result (λ n. is_market (view self.now).period.stage ≡ false → n.0 ≤ imbalance (view self.now).lines) }
@@ -74,7 +74,7 @@ impl<C: QuotedContract, P> Session<C, P> {
                 check_lots(lots, C::LARGEST)?;
                 Ok(lots)
             }
-            _ => self.supplementary_taken(kind, side, lots),
+            _ => self.supplementary_lots(kind, side, lots),
         }
     }
 
@@ -86,14 +86,16 @@ impl<C: QuotedContract, P> Session<C, P> {
         ensures answer { result ≡ record { line = length (view self.old).lines; lots = taken } }
         ensures state { view self.new ≡ tendered (view self.old) time.ms row side taken.0 }
     {
-        let entered = self.table.enter(Line {
-            row,
-            side,
-            lots: taken,
-            price: self.period.price,
-            round: self.period.round,
-        });
-        let Some(line) = entered else { unreachable() };
+        let line = self
+            .table
+            .enter(Line {
+                row,
+                side,
+                lots: taken,
+                price: self.period.price,
+                round: self.period.round,
+            })
+            .unwrap();
         self.period.clock = time.ms;
         Tendered { line, lots: taken }
     }
@@ -116,7 +118,7 @@ impl<C: QuotedContract, P> Session<C, P> {
         let open = matches!(self.period.stage, Stage::Market | Stage::Supplementary);
         let time = self.period.admit(open, time)?;
         check_in_time(self.period.ends, time.ms)?;
-        let taken = self.lots_taken(row, side, lots)?;
+        let taken = self.row_lots(row, side, lots)?;
         self.check_room()?;
         book.freeze(row, margin_of::<C>(taken, self.period.price))?;
         Ok(self.enter(time, row, side, taken))
