@@ -17,13 +17,13 @@ use measures::{Fen, Ticks};
 use messages::answers::{Answer, answer_words};
 use messages::calls::{Call, Metal};
 use messages::faults::MessageFault;
-use messages::prices::MOST_PRICES;
 use messages::reader::Reader;
 use messages::reading::{read, verb_of};
 use messages::rows::Rows;
 use messages::verbs::Verb;
 use rounds::faults::SessionFault;
 use rounds::stages::Stage;
+use session::lists::MOST_PRICES;
 use sharing::table_order::TableOrder;
 use std::alloc::{AllocError, Global};
 

@@ -5,9 +5,9 @@ ghost use Rattle.messages.specs.Faults.{number_of, layer_of, placed_at, word_at_
 ghost use Rattle.messages.specs.declared.faults.MessageFault.TheVariants.{Session};
 
 use crate::kinds::Kind;
-use crate::prices::MOST_PRICES;
 use crate::verbs::Verb;
 use rounds::faults::SessionFault;
+use session::lists::MOST_PRICES;
 
 /// A refusal of a message.
 #[derive(Clone, Copy, PartialEq, Eq, Debug)]

@@ -8,9 +8,6 @@ use crate::lent::{Lent, Worded};
 use measures::Ticks;
 use session::lists::PriceList;
 
-/// The most executed prices of a beginning.
-pub const MOST_PRICES: usize = 10_000;
-
 /// The executed prices of a `Begin`.
 pub type Prices<'a> = Lent<'a, Ticks>;
 

@@ -8,7 +8,7 @@ ghost use Rattle.session.specs.Initial.{Prices, initial_price};
 ghost use Rattle.session.specs.State.{view, came};
 
 use crate::executed::{check_prices, executed_mean};
-use crate::lists::PriceList;
+use crate::lists::{MOST_PRICES, PriceList};
 use crate::session::Session;
 use measures::Ticks;
 use rounds::answers::Standing;
@@ -16,9 +16,6 @@ use rounds::faults::SessionFault;
 use rounds::gates::check_ended;
 use rounds::periods::Period;
 use rounds::stages::Stage;
-
-/// The most executed prices of a beginning.
-const MOST_PRICES: usize = 10_000;
 
 impl<C, P> Session<C, P> {
     /// The Initial Price: from the quotes, else from the executed prices, else the previous benchmark.

@@ -16,7 +16,6 @@ use rounds::answers::Tendered;
 use rounds::faults::SessionFault;
 use rounds::sides::Side;
 use rounds::stages::Stage;
-use session::open::RefusedOpening;
 use session::session::Session;
 use sharing::by_turn::ByTurn;
 use sharing::table_order::TableOrder;
@@ -71,23 +70,15 @@ pub fn quoting<C, P: Drop>(
     limit: usize,
     policy: P,
 ) -> Option<Session<C, P>> {
-    // A refused opening has no `Drop`, so that `ok()` cannot let it fall.
-    match Session::open(
+    Session::open(
         heap,
         OPENED,
         Ticks(price),
         &Rows::Typed(&ROSTER),
         limit,
         policy,
-    ) {
-        Ok(session) => Some(session),
-        Err(
-            RefusedOpening {
-                fault: _,
-                policy: _,
-            },
-        ) => None,
-    }
+    )
+    .ok()
 }
 
 /// A session in the market period of round 1.
