@@ -47,7 +47,7 @@ def places(files):
         (1, r'-> u8\b', 'a number that says nothing'),
         (1, r'let mut \w+ = [^;]*\.is_ok\(\);', 'a flag beside a value'),
         (1, r'pub kind: u32', 'a number for a kind'),
-        (3, r'for \w+ in [^{]*\.\.[^{]*\{', 'a loop over places'),
+        (3, r'for (?!_ )\w+ in [^{]*\.\.[^{]*\{', 'a loop over places'),
         (3, r'if [^{]*< [\w.]+\.len\(\) \{\s*\w*\(?[\w.]+\[', 'a place tested and then read'),
         (4, r'pub fn of\(\w+: u32\)', 'a conversion by hand'),
         (4, r'pub fn number\(self\) -> u32', 'a conversion by hand'),

@@ -111,6 +111,7 @@ impl<C, P, B> Engine<C, P, B> {
 
 impl<C: FixingContract, P: SharingPolicy, B: MarginBook> Engine<C, P, B> {
     /// Takes the order in hand for a measure.
+    // what a step leaves alone is said part by part: of session, book and order each step writes others
     fn order_at(&mut self, time: u32) -> Result<SuspensionOrder, SessionFault>
         ensures order { MatchOption self.old.held (result ≡ Err (misplaced_at time)) (λ o. result ≡ Ok o) }
         ensures session { self.new.session ≡ self.old.session }
@@ -127,6 +128,7 @@ impl<C: FixingContract, P: SharingPolicy, B: MarginBook> Engine<C, P, B> {
         ensures session { self.new.session ≡ self.old.session }
         ensures book { self.new.book ≡ self.old.book }
     {
+        // by a match: the refused measure holds an order, which nothing may let fall
         match answer {
             Ok(standing) => Ok(standing),
             Err(RefusedMeasure { fault, order }) => {
@@ -145,6 +147,7 @@ impl<C: FixingContract, P: SharingPolicy, B: MarginBook> Engine<C, P, B> {
         self.settle(answer)
     }
 
+    // beside `reissue` and not one with it: given the step as a closure, it would have to state its calls for every session and book
     fn announce(&mut self, time: u32, price: Ticks) -> Result<Standing, SessionFault>
         ensures outcome { MeasuredAs self.old.held time (view self.old.session) (B.means self.old.book) (announce_outcome C.MARGIN.0 (view self.old.session) (B.means self.old.book) time price) (said_standing result) (view self.new.session) (B.means self.new.book) }
         ensures kept { OnErr result (Unchanged B.means self.old self.new) }

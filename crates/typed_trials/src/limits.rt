@@ -97,15 +97,13 @@ fn all_4096_lines(heap: Global) -> Option<bool> {
     let sum = 245_759_606_784_000_000;
     let mut session: Session<Shag, TableOrder> = market(heap, 9_999_984, 4_096, TableOrder)?;
     let mut book = book_of(heap, &[free(sum)])?;
-    // a tender a line, with no list to go over
-    for line in 0..4_096 {
+    let all_taken = (0..4_096).all(|line| {
         let answer = tender(Side::Buy, &mut session, &mut book, BEGUN, 0, 40_000);
-        if !taken(answer, line, 40_000) {
-            return Some(false);
-        }
-    }
+        taken(answer, line, 40_000)
+    });
     Some(
-        holds(&book, 0, 0, sum)
+        all_taken
+            && holds(&book, 0, 0, sum)
             && refused(tender(Side::Buy, &mut session, &mut book, BEGUN, 0, 1), 30)
             && stands(
                 session.close(&mut book, CLOSED),

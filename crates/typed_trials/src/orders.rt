@@ -107,7 +107,6 @@ fn in_the_last_round<B: MarginBook>(
     book: &mut B,
 ) -> Option<Session<Shag, TableOrder>> {
     let mut session = silver(heap, 100)?;
-    // as often as there are rounds left, with no list to go over
     for _ in 1..64 {
         let Suspended {
             session: mut suspended,
