@@ -22,10 +22,6 @@ covers-stop m due k (suc n) e lt h f =
     (λ (p : (eqb k n ≡ false) × (k ≡ n → ⊥)). let q = p.1 in let l : k < n = omega arith in next-err (covers_all m due n) _ e (covers-stop m due k n e l h f))
     (eqb_tells k n)
 
-release-none : (o : Option Balance) → released_of o 0 ≡ o
-release-none None = refl
-release-none (Some b) = grind (arith, nat_tests)
-
 -- dues that are the same below n cover and release the same
 covers-same : (m : Accounts) (f g : ℕ → ℕ) (n : ℕ) → ((k : ℕ) → k < n → f k ≡ g k) → covers_all m f n ≡ covers_all m g n
 covers-same m f g zero h = refl

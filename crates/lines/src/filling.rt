@@ -71,6 +71,7 @@ fn share_out<P: SharingPolicy>(
     requires stood { (side : Side) (k : ℕ) → k < 256 → filled_on side (slice_index_or fills.old k no_fill) ≤ 163840000 }
     ensures { (side : Side) (k : ℕ) → k < 256 → filled_on side (slice_index_or fills.new k no_fill) ≡ filled_on side (slice_index_or fills.old k no_fill) + (if same_side taker side then share_of (P.share policy.now members excess.0) rows.now k else 0) }
 {
+    // the place among the Fixing Members, which is no number of a row
     let mut place: u32 = 0;
     for (row, participant) in rows.iter().enumerate() {
         if participant.kind.is_fixing() {

@@ -18,6 +18,7 @@ use std::marker::PhantomData;
 /// the margin book is lent to each call that needs it, since another session may stand over the same book.
 #[derive(Drop)]
 pub struct Session<C, P> {
+    // three tables by row and not one of rows: each keeps to bounds of its own, and the sheet lends the fills as they lie
     pub(crate) participants: Participants,
     pub(crate) quotes: Quotes,
     pub(crate) table: LineTable,
