@@ -26,11 +26,10 @@ pub fn check_limit(limit: usize) -> Result<(), SessionFault>
     ensures answer { result ≡ limit_fits limit }
     ensures within { OnOk result (limit ≤ 4096) }
 {
-    if limit < 1 || limit > MOST_LINES {
-        Err(SessionFault::LineLimit)
-    } else {
-        Ok(())
+    if !(1..=MOST_LINES).contains(&limit) {
+        return Err(SessionFault::LineLimit);
     }
+    Ok(())
 }
 
 impl Line {

@@ -42,6 +42,17 @@ impl OpenRow {
     }
 }
 
+impl From<OpenRow> for Listed {
+    ghost from_gives = { λ row l. l ≡ listed_of row };
+
+    fn from(row: OpenRow) -> Listed {
+        Listed {
+            kind: row.kind,
+            carrier: row.carrier,
+        }
+    }
+}
+
 /// The rows of an `Open`.
 pub type Rows<'a> = Lent<'a, OpenRow>;
 
@@ -77,10 +88,6 @@ impl<'a> Roster for Lent<'a, OpenRow> {
     }
 
     fn participant(&self, row: usize) -> Listed {
-        let found = self.at(row);
-        Listed {
-            kind: found.kind,
-            carrier: found.carrier,
-        }
+        Listed::from(self.at(row))
     }
 }

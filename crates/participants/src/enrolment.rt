@@ -103,11 +103,11 @@ fn check_counts<R: Roster>(roster: &R) -> Result<HeadCount, SessionFault>
     ensures members { IfOk result (λ h. (h.members ≡ member_count (enrolled (R.listed roster.now))) × (1 ≤ h.members) × (h.members ≤ 32)) }
     ensures seats { IfOk result (λ h. h.seats ≡ seat_count (enrolled (R.listed roster.now))) }
 {
-    if roster.rows() < 1 || roster.rows() > MOST_ROWS {
+    if !(1..=MOST_ROWS).contains(&roster.rows()) {
         return Err(SessionFault::Participants);
     }
     let counts = head_count(roster);
-    if counts.members < 1 || counts.members > MOST_MEMBERS {
+    if !(1..=MOST_MEMBERS).contains(&counts.members) {
         return Err(SessionFault::Participants);
     }
     Ok(counts)
@@ -118,12 +118,9 @@ fn copy_rows<R: Roster>(heap: Global, roster: &R) -> Result<Vec<Participant>, Al
     ensures items { IfOk result (λ v. v.items ≡ enrolled (R.listed roster.now)) }
     ensures len { IfOk result (λ v. vec_len v ≡ length (R.listed roster.now)) }
 {
-    let mut rows = Vec::with_capacity(heap, roster.rows())?;
-    // by number: whether a row is well carried depends on another row
-    for row in 0..roster.rows() {
-        rows.push(participant_at(roster, row))?;
-    }
-    Ok(rows)
+    (0..roster.rows())
+        .map(|row| participant_at(roster, row))
+        .collect(heap)
 }
 
 impl Participants {

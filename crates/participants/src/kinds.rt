@@ -19,7 +19,7 @@ pub enum Kind {
 
 /// A number that names no kind.
 #[derive(Clone, Copy, PartialEq, Eq, Debug)]
-pub struct UnknownKind(pub u32);
+pub struct UnknownKind;
 
 impl TryFrom<u32> for Kind {
     type Error = UnknownKind;
@@ -32,7 +32,7 @@ impl TryFrom<u32> for Kind {
             2 => Ok(Kind::ReferencePriceMember),
             3 => Ok(Kind::OtherMember),
             4 => Ok(Kind::Customer),
-            _ => Err(UnknownKind(number)),
+            _ => Err(UnknownKind),
         }
     }
 }

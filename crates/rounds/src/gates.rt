@@ -56,11 +56,10 @@ pub fn check_price(price: Ticks, at: usize) -> Result<(), SessionFault>
     ensures answer { result ≡ price_fits at price.0 }
     ensures within { OnOk result ((1 ≤ price.0) × (price.0 ≤ 10000000)) }
 {
-    if price.0 < 1 || price.0 > HIGHEST_PRICE {
-        Err(SessionFault::Price { at })
-    } else {
-        Ok(())
+    if !(1..=HIGHEST_PRICE).contains(&price.0) {
+        return Err(SessionFault::Price { at });
     }
+    Ok(())
 }
 
 /// That lots are at least one, and at most the largest tender.

@@ -8,7 +8,6 @@ ghost use Rattle.session.specs.State.{view, standing_at};
 
 use crate::session::Session;
 use rounds::answers::Standing;
-use rounds::periods::Period;
 use rounds::stages::Stage;
 use rounds::times::TimeOfDay;
 use sharing::policy::SharingPolicy;
@@ -23,11 +22,6 @@ impl<C, P: SharingPolicy> Session<C, P> {
         self.fills = self.table.fills(&self.participants, &self.policy);
         self.policy
             .tell(self.participants.members(), self.table.imbalance());
-        self.period = Period {
-            stage: Stage::Fixed,
-            clock: time.ms,
-            ..self.period
-        };
-        self.standing()
+        self.turn_to(Stage::Fixed, time)
     }
 }

@@ -1,10 +1,9 @@
 use Rattle.std.specs.Prelude.{◌≡◌, ℕ, zero, suc, ◌+◌, ◌-◌, ◌*◌, ◌/◌, ◌%◌, ◌<◌, ◌≤◌, min, Bool, true, cond, nat_lt}
-use Rattle.std.proofs.Common.{⊎_elim, ◌∙◌, ap, sym, suc-mul, mod-lt, mod-eq_of_lt, arith}
+use Rattle.std.proofs.Common.{⊎_elim, ◌∙◌, ap, suc-mul, mod-lt, mod-eq_of_lt, arith}
 use Rattle.std.proofs.Math.Nat.{div-add-mod, add-mod_right}
 use Rattle.std.proofs.lemmas.Bool.{cases_lt}
 use Rattle.std.proofs.lemmas.Bool.Decides.{nat_tests}
-use mathlib.Core.Path.{fun_ext}
-use Rattle.sharing.specs.Shares.{in_bounds, below, shared_out, table_share, start_of, turn_extra, turn_share}
+use Rattle.sharing.specs.Shares.{in_bounds, below, shared_out, table_extra, table_share, start_of, turn_extra, turn_share}
 
 -- how many places below k are marked
 abbrev pub marked : (ℕ → Bool) → ℕ → ℕ
@@ -32,6 +31,17 @@ level extra n q i j h k l = grind (arith, nat_tests)
 -- there is a member within the bounds
 pub some : (n q : ℕ) → in_bounds n q ≡ true → 0 < n
 some n q h = grind (arith, nat_tests)
+
+-- the first r places number r
+first : (r k : ℕ) → marked (λ i. nat_lt i r) k ≡ min k r
+first r zero = omega arith
+first r (suc k) = let before = first r k in grind (arith, nat_tests)
+
+pub table : (n q : ℕ) → in_bounds n q ≡ true → marked (table_extra n q) n ≡ q % n
+table n q h =
+    let count = first (q % n) n in
+    let low = mod-lt q (some n q h) in
+    omega arith
 
 -- a place below the start s waits until the turn has gone around
 around : (n s i : ℕ) → s < n → i < s → (i + n - s) % n ≡ i + n - s
@@ -74,4 +84,4 @@ turn_whole s n q h = whole (turn_extra s n q) n q h (turn s n q h)
 
 -- and so they are in table order
 pub table_whole : (n q : ℕ) → in_bounds n q ≡ true → below n (table_share n q) ≡ q
-table_whole n q h = ap (below n) (fun_ext (λ i. sym (turn_from_first n q i))) ∙ turn_whole 0 n q h
+table_whole n q h = whole (table_extra n q) n q h (table n q h)

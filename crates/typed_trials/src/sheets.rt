@@ -44,11 +44,9 @@ fn no_sheet_without_a_fix(heap: Global) -> Option<bool> {
 fn sum<F: Fn(&Fill) -> Lots>(fills: &[Fill], side: F) -> u32
     requires { F.IsAlwaysCallable side }
 {
-    let mut lots: u32 = 0;
-    for fill in fills {
-        lots = lots.saturating_add(side(fill).0);
-    }
-    lots
+    fills
+        .iter()
+        .fold(0, |lots: u32, fill| lots.saturating_add(side(fill).0))
 }
 
 /// Whether a session has a sheet with a fill a row, and as many lots bought as sold.
