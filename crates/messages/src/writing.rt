@@ -138,7 +138,7 @@ fn put_fields(verb: Verb, fields: &[u32], out: &mut [u32]) -> Result<usize, Mess
     requires { counted (again verb) (first verb) (verb_number verb ∷ fields.now) ≡ true }
     ensures { (result, out.new) ≡ writing_figures verb (verb_number verb ∷ fields.now) out.old }
 {
-    // Nothing follows: a tail of no prices, since an empty case of the tail would lend nothing and is not covered.
+    // Nothing follows: a tail of no prices. A third case for it would be one more in each question of a tail.
     let tail = Tail::Prices(Prices::Words(&[]));
     put(Draft { verb, fields, tail }, out)
 }

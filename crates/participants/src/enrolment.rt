@@ -87,7 +87,7 @@ fn head_count<R: Roster>(roster: &R) -> HeadCount
 {
     let mut members = 0;
     let mut seats = 0;
-    // by number: whether a row is well carried depends on another row
+    // by number, and a loop for two sums: whether a row is well carried depends on another row
     for row in 0..roster.rows() {
         let kind = participant_at(roster, row).kind;
         members += kind.is_fixing() as u32;

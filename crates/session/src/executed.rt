@@ -30,7 +30,7 @@ pub(crate) fn executed_mean<L: PriceList>(executed: &L) -> Ticks
     ensures within { (1 ≤ result.0) × (result.0 ≤ 10000000) }
 {
     let mut sum: u64 = 0;
-    // by place: the prices may lie in words, which are not copied into a list of prices
+    // a loop and no chain: that the sum of a chain over the places fits was tried, and not proved
     for place in 0..executed.count() {
         sum += executed.price(place).0 as u64;
     }
