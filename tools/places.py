@@ -14,15 +14,15 @@ from collections import defaultdict
 TOKEN = re.compile(r'[A-Za-z_][A-Za-z_0-9]*|\d[\d_xa-f]*|\S')
 
 
-def sources(commit):
-    """The source files of the crates, by name."""
+def sources(commit, ending='.rt', folder='/src/'):
+    """The source files of the crates, or other files of theirs, by name."""
     if commit:
         names = subprocess.run(['git', 'ls-tree', '-r', '--name-only', commit, 'crates'], capture_output=True, text=True, check=True).stdout.split('\n')
         read = lambda n: subprocess.run(['git', 'show', f'{commit}:{n}'], capture_output=True, text=True, check=True).stdout
     else:
         names = subprocess.run(['git', 'ls-files', 'crates'], capture_output=True, text=True, check=True).stdout.split('\n')
         read = lambda n: open(n).read()
-    return {n: read(n) for n in names if '/src/' in n and n.endswith('.rt')}
+    return {n: read(n) for n in names if folder in n and n.endswith(ending)}
 
 
 def functions(text):
@@ -92,12 +92,22 @@ def facts(every):
             yield 5, f'{len(where)} functions', fact
 
 
+def proofs(commit):
+    """Point 8: how many answers there are, in how many files, and how many lemmas."""
+    files = sources(commit, '.antt', '/proofs/')
+    answers = {n: len(re.findall(r'^pub ', t, re.M)) for n, t in files.items() if n.endswith('Answers.antt')}
+    lemmas = [len(re.findall(r'^(?:abbrev |unfoldable )?(?:pub )?[a-z]\S* .*: ', t, re.M)) for n, t in files.items() if re.search(r'proofs/[A-Z]\w*\.antt$', n)]
+    return f'{sum(answers.values())} answers in {len(answers)} files, {sum(lemmas)} lemmas'
+
+
 def main():
-    found = sorted(places(sources(sys.argv[1] if len(sys.argv) > 1 else None)))
+    commit = sys.argv[1] if len(sys.argv) > 1 else None
+    found = sorted(places(sources(commit)))
     for point, place, what in found:
         print(point, place, what, sep='\t')
     for point in sorted({p for p, _, _ in found}):
         print(f'point {point}: {sum(p == point for p, _, _ in found)}')
+    print('point 8:', proofs(commit))
 
 
 if __name__ == '__main__':
