@@ -82,6 +82,7 @@ impl<C, P, B> Engine<C, P, B> {
     }
 
     /// Takes an order into the empty hand.
+    // of session, book and order each step writes others, and says which it leaves
     fn keep(&mut self, order: SuspensionOrder)
         requires { self.old.held ≡ None }
         ensures session { self.new.session ≡ self.old.session }
@@ -111,7 +112,6 @@ impl<C, P, B> Engine<C, P, B> {
 
 impl<C: FixingContract, P: SharingPolicy, B: MarginBook> Engine<C, P, B> {
     /// Takes the order in hand for a measure.
-    // what a step leaves alone is said part by part: of session, book and order each step writes others
     fn order_at(&mut self, time: u32) -> Result<SuspensionOrder, SessionFault>
         ensures order { MatchOption self.old.held (result ≡ Err (misplaced_at time)) (λ o. result ≡ Ok o) }
         ensures session { self.new.session ≡ self.old.session }

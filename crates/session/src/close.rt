@@ -71,6 +71,7 @@ impl<C: FixingContract, P: SharingPolicy> Session<C, P> {
     }
 
     /// Moves the price and strikes the side of the excess, or halts.
+    // `moved` is said at each step of the way to `close`, which says it to callers
     fn move_price<B: MarginBook>(
         &mut self,
         book: &mut B,
