@@ -14,26 +14,27 @@ from collections import defaultdict
 TOKEN = re.compile(r'[A-Za-z_][A-Za-z_0-9]*|\d[\d_xa-f]*|\S')
 
 
-def sources(commit):
-    """The source files of the crates, by name."""
+def sources(commit, ending='.rt', folder='/src/'):
+    """The source files of the crates, or other files of theirs, by name."""
     if commit:
         names = subprocess.run(['git', 'ls-tree', '-r', '--name-only', commit, 'crates'], capture_output=True, text=True, check=True).stdout.split('\n')
         read = lambda n: subprocess.run(['git', 'show', f'{commit}:{n}'], capture_output=True, text=True, check=True).stdout
     else:
         names = subprocess.run(['git', 'ls-files', 'crates'], capture_output=True, text=True, check=True).stdout.split('\n')
         read = lambda n: open(n).read()
-    return {n: read(n) for n in names if '/src/' in n and n.endswith('.rt')}
+    return {n: read(n) for n in names if folder in n and n.endswith(ending)}
 
 
 def functions(text):
-    """Each function as (line, name, header with its clauses, body)."""
+    """Each function that has a body, as (line, name, header with its clauses, body)."""
     for m in re.finditer(r'^( *)(?:pub(?:\(crate\))? )?fn (\w+)', text, re.M):
         indent = m.group(1)
-        end = re.compile(rf'^{indent}(?:\}}$|.*;$)', re.M).search(text, m.end() if text[m.end()] == '\n' else m.start())
-        opening = re.compile(rf'\{{$|^{indent}\{{$', re.M).search(text, m.end())
-        if not end or not opening or opening.start() > end.end():
+        end = re.compile(rf'^{indent}\}}$', re.M).search(text, m.end())
+        opening = re.compile(r'^(?:.*\S)? *\{$', re.M).search(text, m.start())
+        declared = re.compile(r';$', re.M).search(text, m.end())
+        if not end or not opening or opening.start() > end.start() or declared and declared.start() < opening.start():
             continue
-        yield text.count('\n', 0, m.start()) + 1, m.group(2), text[m.start():opening.start()], text[opening.start():end.end()]
+        yield text.count('\n', 0, m.start()) + 1, m.group(2), text[m.start():opening.start()] if opening.start() > m.start() else '', text[max(opening.start(), m.start()):end.end()]
 
 
 def places(files):
@@ -45,9 +46,11 @@ def places(files):
         (1, r'let (?:Some|Ok)\(\w+\) = [^;]*?else \{\s*return (?:None|Err)', 'a `?` written out'),
         (1, r'-> u8\b', 'a number that says nothing'),
         (1, r'let mut \w+ = [^;]*\.is_ok\(\);', 'a flag beside a value'),
-        (3, r'for \w+ in [^{]*\.\.[^{]*\{', 'a loop over places'),
+        (1, r'pub kind: u32', 'a number for a kind'),
+        (3, r'for (?!_ )\w+ in [^{]*\.\.[^{]*\{', 'a loop over places'),
         (3, r'if [^{]*< [\w.]+\.len\(\) \{\s*\w*\(?[\w.]+\[', 'a place tested and then read'),
         (4, r'pub fn of\(\w+: u32\)', 'a conversion by hand'),
+        (4, r'pub fn number\(self\) -> u32', 'a conversion by hand'),
         (4, r'\.number\(\) == \w+\.number\(\)', 'an equality by hand'),
         (4, r'pub fn least\(', 'an order by hand'),
         (6, r'place: usize,\n', 'a slice with a place beside it'),
@@ -73,7 +76,6 @@ def twins(every):
             differ = {(x, y) for x, y in zip(a, b) if x != y}
             if len(differ) <= 4 and len({x for x, _ in differ}) == len(differ):
                 yield 2, f'{n}:{line}', f'{f} and {f2} of {n2}'
-    return
 
 
 def facts(every):
@@ -90,12 +92,22 @@ def facts(every):
             yield 5, f'{len(where)} functions', fact
 
 
+def proofs(commit):
+    """Point 8: how many answers there are, in how many files, and how many lemmas."""
+    files = sources(commit, '.antt', '/proofs/')
+    answers = {n: len(re.findall(r'^pub ', t, re.M)) for n, t in files.items() if n.endswith('Answers.antt')}
+    lemmas = [len(re.findall(r'^(?:abbrev |unfoldable )?(?:pub )?[a-z]\S* .*: ', t, re.M)) for n, t in files.items() if re.search(r'proofs/[A-Z]\w*\.antt$', n)]
+    return f'{sum(answers.values())} answers in {len(answers)} files, {sum(lemmas)} lemmas'
+
+
 def main():
-    found = sorted(places(sources(sys.argv[1] if len(sys.argv) > 1 else None)))
+    commit = sys.argv[1] if len(sys.argv) > 1 else None
+    found = sorted(places(sources(commit)))
     for point, place, what in found:
         print(point, place, what, sep='\t')
     for point in sorted({p for p, _, _ in found}):
         print(f'point {point}: {sum(p == point for p, _, _ in found)}')
+    print('point 8:', proofs(commit))
 
 
 if __name__ == '__main__':

@@ -1,5 +1,5 @@
 -- What freezing and releasing mean, for every book.
-use Rattle.std.specs.Prelude.{ℕ, ◌+◌, ◌-◌, ◌*◌, ◌^◌, ◌≤◌, cond, Some, None, Ok, Err, Option, Result, ◌==◌, nat_lt}
+use Rattle.std.specs.Prelude.{◌≡◌, ℕ, ◌+◌, ◌-◌, ◌*◌, ◌^◌, ◌≤◌, cond, Some, None, Ok, Err, Option, Result, ◌==◌, nat_lt}
 use Rattle.books.specs.declared.balance.Balance.{Balance}
 use Rattle.books.specs.declared.faults.BookFault.{BookFault}
 use Rattle.books.specs.declared.faults.BookFault.TheVariants.{Unknown, Short}
@@ -18,6 +18,11 @@ most_held = 4 * 10 ^ 18
 abbrev pub Within : Option Balance → Type 0
 Within None = Unit {0}
 Within (Some b) = b.free.0 + b.frozen.0 ≤ most_held
+
+-- an account holds as much as a balance, free and frozen together
+abbrev pub SameSum : Option Balance → Balance → Type 0
+SameSum None s = ⊥
+SameSum (Some b) s = b.free.0 + b.frozen.0 ≡ s.free.0 + s.frozen.0
 
 -- freezing is refused exactly when the account is unknown or has too little free
 abbrev pub freezing : Option Balance → ℕ → Result (Unit {0}) BookFault
@@ -44,3 +49,7 @@ frozen_at m account n a = cond (a == account) (frozen_of (m a) n) (m a)
 
 abbrev pub released_at : Accounts → ℕ → ℕ → Accounts
 released_at m account n a = cond (a == account) (released_of (m a) n) (m a)
+
+-- the accounts with another balance for one of them
+abbrev pub replaced_at : Accounts → ℕ → Option Balance → Accounts
+replaced_at m account b a = cond (a == account) b (m a)

@@ -1,13 +1,13 @@
 //! A book that stores a bank's line for each account, and what is drawn on it.
 
 ghost use Rattle.std.specs.Prelude.{◌≡◌};
-ghost use Rattle.books.specs.Stored.{line_accounts, line_means, credited};
+ghost use Rattle.books.specs.Stored.{line_accounts, credited};
 ghost use Rattle.std.proofs.Common.{rules};
 
 use crate::balance::{Balance, MOST_HELD};
 use crate::book::MarginBook;
-use crate::checks::{freezable, releasable};
-use crate::faults::BookFault;
+use crate::record::AccountRecord;
+use crate::record_book::RecordBook;
 use measures::Fen;
 
 /// A line of a bank: `line` is the most that may be frozen, `drawn` is what is frozen now.
@@ -18,57 +18,33 @@ pub struct BankLine {
 }
 
 /// The line of account `i` stands at place `i`.
-#[derive(Drop)]
-pub struct BankLineBook {
-    accounts: Vec<BankLine>,
-}
+pub type BankLineBook = RecordBook<BankLine>;
 
-/// What a stored line leaves free and has frozen, if it is within the bound and holds what is drawn.
-fn credited_balance(stored: BankLine) -> Option<Balance>
-    ensures { result ≡ credited stored }
-{
-    if stored.line.0 <= MOST_HELD.0 && stored.drawn.0 <= stored.line.0 {
-        Some(Balance {
-            free: Fen(stored.line.0 - stored.drawn.0),
-            frozen: stored.drawn,
-        })
-    } else {
-        None
-    }
-}
+impl AccountRecord for BankLine {
+    ghost meaning = { credited };
 
-impl BankLineBook {
-    /// A book that stores these lines.
-    pub fn new(accounts: Vec<BankLine>) -> BankLineBook
-        ensures { line_accounts result ≡ line_means accounts.items }
-    {
-        BankLineBook { accounts }
-    }
-}
+    ghost within = { Prim.search rules };
 
-impl MarginBook for BankLineBook {
-    ghost means = { line_accounts };
-
-    ghost bounded = { Prim.search rules };
-
-    fn balance(&self, account: u32) -> Option<Balance> {
-        let place = account as usize;
-        if place < self.accounts.len() {
-            credited_balance(self.accounts[place])
+    fn balance(self) -> Option<Balance> {
+        if self.line <= MOST_HELD && self.drawn <= self.line {
+            Some(Balance {
+                free: Fen(self.line.0 - self.drawn.0),
+                frozen: self.drawn,
+            })
         } else {
             None
         }
     }
 
-    fn freeze(&mut self, account: u32, amount: Fen) -> Result<(), BookFault> {
-        let held = freezable(self.balance(account), amount)?;
-        self.accounts[account as usize].drawn = Fen(held.frozen.0 + amount.0);
-        Ok(())
-    }
-
-    fn release(&mut self, account: u32, amount: Fen) -> Result<(), BookFault> {
-        let held = releasable(self.balance(account), amount)?;
-        self.accounts[account as usize].drawn = Fen(held.frozen.0 - amount.0);
-        Ok(())
+    fn holding(self, balance: Balance) -> BankLine {
+        BankLine {
+            drawn: balance.frozen,
+            ..self
+        }
     }
 }
+
+/// A bank-line book means what each line that it stores leaves free and has drawn.
+pub fn bank_line_book_stands(book: &BankLineBook, account: u32)
+    ensures { ⟦<BankLineBook as MarginBook>⟧.means book.now account ≡ line_accounts book.now account }
+{}

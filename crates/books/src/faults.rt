@@ -14,6 +14,7 @@ pub enum BookFault {
 
 impl BookFault {
     /// The number of the refusal.
+    // by name: `u32::from` would not say what the number is
     pub fn number(self) -> u32
         ensures { result ≡ number_of self }
     {

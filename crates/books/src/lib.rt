@@ -6,5 +6,7 @@ pub mod balance;
 pub mod bank_line;
 pub mod book;
 pub mod cash;
-mod checks;
 pub mod faults;
+mod passing;
+pub mod record;
+pub mod record_book;

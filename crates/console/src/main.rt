@@ -7,22 +7,13 @@ use engine::words::words_of;
 use std::alloc::Global;
 use std::io::Read;
 
-/// As much as is read at once: a little more than the longest list, so that mostly one reading is enough.
-const PIECE: usize = 0x1_1000;
+/// As much as is read: a little more than the longest list. A longer one is refused whole, so no more of it need be read.
+const MOST_BYTES: u64 = 0x1_1000;
 
-/// Reads the input in large pieces, up to its end or past the longest list: a longer one is refused whole, so no more of it
-/// need be read.
+/// Reads the input, up to its end or past the longest list.
 fn read_input(rt: &HostRuntime, heap: Global) -> anyhow::Result<Vec<u8>> {
     let mut bytes = Vec::new(heap);
-    let mut piece = vec![in heap; 0u8; PIECE]?;
-    let mut input = rt.stdin();
-    for _ in 0..PIECE {
-        let count = input.read(piece.as_mut_slice())?;
-        if count == 0 || bytes.len() > PIECE {
-            break;
-        }
-        bytes.extend_from_slice(&piece.as_slice()[0..count])?;
-    }
+    rt.stdin().take(MOST_BYTES).read_to_end(&mut bytes)?;
     Ok(bytes)
 }
 

@@ -1,11 +1,14 @@
 //! The quoted part of a contract: what trading and clearing alike need of it.
 
-ghost use Rattle.std.specs.Prelude.{◌≡◌, ℕ, ◌≤◌};
+ghost use Rattle.std.specs.Prelude.{◌≤◌};
+ghost use Rattle.measures.specs.declared.Fen.{Fen};
+ghost use Rattle.measures.specs.declared.Kg.{Kg};
+ghost use Rattle.measures.specs.declared.Lots.{Lots};
 
 use measures::{Fen, Kg, Lots};
 
-/// A quoted contract. Each figure stands three times: the constant that the contract sets, the ghost member that clauses
-/// name, and the accessor that ties the two and that generic code reads.
+/// A quoted contract. Each figure is a constant for code and, under the same name, a ghost member for clauses: a contract sets
+/// both, and the check proves them equal.
 pub trait QuotedContract {
     /// What one lot weighs.
     const LOT_WEIGHT: Kg;
@@ -16,41 +19,25 @@ pub trait QuotedContract {
     /// The most lots of one tender.
     const LARGEST: Lots;
 
-    ghost weight: { ℕ };
+    ghost LOT_WEIGHT: { Kg };
 
-    ghost worth: { ℕ };
+    ghost FEN: { Fen };
 
-    ghost margin: { ℕ };
+    ghost MARGIN: { Fen };
 
-    ghost largest: { ℕ };
+    ghost LARGEST: { Lots };
 
-    /// What one lot weighs.
-    fn weight_of_lot() -> Kg
-        ensures { result.0 ≡ weight };
+    ghost weight_low: { 1 ≤ LOT_WEIGHT.0 };
 
-    /// What one tick is worth for one lot.
-    fn tick_worth() -> Fen
-        ensures { result.0 ≡ worth };
+    ghost weight_high: { LOT_WEIGHT.0 ≤ 1000 };
 
-    /// What one tick of the price of one lot freezes as margin.
-    fn margin_figure() -> Fen
-        ensures { result.0 ≡ margin };
+    ghost worth_high: { FEN.0 ≤ 1500 };
 
-    /// The most lots of one tender.
-    fn largest_tender() -> Lots
-        ensures { result.0 ≡ largest };
+    ghost margin_low: { 1 ≤ MARGIN.0 };
 
-    ghost weight_low: { 1 ≤ weight };
+    ghost margin_high: { MARGIN.0 ≤ FEN.0 };
 
-    ghost weight_high: { weight ≤ 1000 };
+    ghost largest_low: { 1 ≤ LARGEST.0 };
 
-    ghost worth_high: { worth ≤ 1500 };
-
-    ghost margin_low: { 1 ≤ margin };
-
-    ghost margin_high: { margin ≤ worth };
-
-    ghost largest_low: { 1 ≤ largest };
-
-    ghost largest_high: { largest ≤ 40000 };
+    ghost largest_high: { LARGEST.0 ≤ 40000 };
 }

@@ -1,7 +1,7 @@
 //! Shanghai silver.
 
 ghost use Rattle.contracts.specs.Steps.{shag_step};
-ghost use Rattle.std.proofs.Common.{rules};
+ghost use Rattle.std.proofs.Common.{leb-true, refl, rules};
 
 use crate::fixing::FixingContract;
 use crate::quoted::QuotedContract;
@@ -20,49 +20,33 @@ impl QuotedContract for Shag {
 
     const LARGEST: Lots = Lots(40_000);
 
-    ghost weight = { 15 };
+    ghost LOT_WEIGHT = { record { 0 = 15 } };
 
-    ghost worth = { 1500 };
+    ghost FEN = { record { 0 = 1500 } };
 
-    ghost margin = { 150 };
+    ghost MARGIN = { record { 0 = 150 } };
 
-    ghost largest = { 40000 };
+    ghost LARGEST = { record { 0 = 40000 } };
 
-    ghost weight_low = { Prim.search rules };
+    ghost weight_low = { leb-true _ _ refl };
 
-    ghost weight_high = { Prim.search rules };
+    ghost weight_high = { leb-true _ _ refl };
 
-    ghost worth_high = { Prim.search rules };
+    ghost worth_high = { leb-true _ _ refl };
 
-    ghost margin_low = { Prim.search rules };
+    ghost margin_low = { leb-true _ _ refl };
 
-    ghost margin_high = { Prim.search rules };
+    ghost margin_high = { leb-true _ _ refl };
 
-    ghost largest_low = { Prim.search rules };
+    ghost largest_low = { leb-true _ _ refl };
 
-    ghost largest_high = { Prim.search rules };
-
-    fn weight_of_lot() -> Kg {
-        Self::LOT_WEIGHT
-    }
-
-    fn tick_worth() -> Fen {
-        Self::FEN
-    }
-
-    fn margin_figure() -> Fen {
-        Self::MARGIN
-    }
-
-    fn largest_tender() -> Lots {
-        Self::LARGEST
-    }
+    ghost largest_high = { leb-true _ _ refl };
 }
 
 impl FixingContract for Shag {
     const THRESHOLD: Lots = Lots(600);
 
-    ghost threshold = { 600 };
+    ghost THRESHOLD = { record { 0 = 600 } };
 
     ghost step = { shag_step };
 
@@ -73,10 +57,6 @@ impl FixingContract for Shag {
     ghost step_low = { Prim.search rules };
 
     ghost step_high = { Prim.search rules };
-
-    fn threshold_lots() -> Lots {
-        Self::THRESHOLD
-    }
 
     fn step_at(imbalance: Lots) -> Ticks {
         let ticks = match imbalance.0 {

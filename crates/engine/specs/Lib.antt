@@ -1,2 +1,5 @@
+pub mod Answering
 pub mod Fronts
 pub mod Misplaced
+pub mod Unchanged
+pub mod Words

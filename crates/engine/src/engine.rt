@@ -3,16 +3,10 @@
 use session::orders::SuspensionOrder;
 use session::session::Session;
 
-/// The suspension order, while the session is suspended.
-pub(crate) enum Held {
-    Nothing,
-    Order(SuspensionOrder),
-}
-
 /// One session of the contract `C` with its margin book and, while it is suspended, its order. Whoever holds an engine
 /// ends it by `retire`, so that no order is let fall.
 pub struct Engine<C, P, B> {
     pub(crate) session: Session<C, P>,
     pub(crate) book: B,
-    pub(crate) held: Held,
+    pub(crate) held: Option<SuspensionOrder>,
 }

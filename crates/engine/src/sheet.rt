@@ -15,10 +15,13 @@ fn write_words(price: Ticks, fills: &[Fill], out: &mut [u32])
     requires room { 1 + 3 * length fills.now ≤ length out.old }
 {
     out[0] = word(Kind::Price, price.0);
-    for (row, fill) in fills.iter().enumerate() {
-        out[3 * row + 1] = word(Kind::Row, row as u32);
-        out[3 * row + 2] = word(Kind::Bought, fill.bought.0);
-        out[3 * row + 3] = word(Kind::Sold, fill.sold.0);
+    let (rows, _) = out[1..].as_chunks_mut::<3>();
+    for ((row, fill), words) in (0..256).zip(fills.iter()).zip(rows.iter_mut()) {
+        *words = [
+            word(Kind::Row, row),
+            word(Kind::Bought, fill.bought.0),
+            word(Kind::Sold, fill.sold.0),
+        ];
     }
 }
 

@@ -12,15 +12,16 @@ pub struct Transcript {
 /// Each word in hexadecimal, upper case, eight digits: a line an answer, then the sheet's price, then a line a row.
 impl fmt::Display for Transcript {
     fn fmt<W: fmt::Write>(&self, f: &mut fmt::Formatter<W>) -> fmt::Result {
-        for words in self.answers.iter() {
-            writeln!(f, "{:08X} {:08X}", words[0], words[1])?;
+        for [first, second] in self.answers.iter() {
+            writeln!(f, "{first:08X} {second:08X}")?;
         }
         let Some((price, rows)) = self.sheet.as_slice().split_first() else {
             return Ok(());
         };
         writeln!(f, "{price:08X}")?;
-        for row in rows.chunks_exact(3) {
-            writeln!(f, "{:08X} {:08X} {:08X}", row[0], row[1], row[2])?;
+        let (rows, _) = rows.as_chunks::<3>();
+        for [row, bought, sold] in rows {
+            writeln!(f, "{row:08X} {bought:08X} {sold:08X}")?;
         }
         Ok(())
     }

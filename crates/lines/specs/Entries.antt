@@ -1,5 +1,5 @@
 -- The line table, and what is entered in it.
-use Rattle.std.specs.Prelude.{ℕ, Bool, cond, ◌&&◌, ◌||◌, List, length, Some, None, Ok, Err, vec_items, Option, nat_le, nat_lt, slice_index_or}
+use Rattle.std.specs.Prelude.{◌≡◌, ℕ, Bool, cond, ◌&&◌, ◌||◌, List, length, Some, None, Ok, Err, vec_items, Option, nat_le, nat_lt, slice_index_or}
 use Rattle.rounds.specs.Gates.{Check}
 use Rattle.rounds.specs.declared.faults.SessionFault.TheVariants.{LineLimit}
 use Rattle.lines.specs.Lines.{lawful_line, no_line}
@@ -15,6 +15,10 @@ limit_of t = t.limit
 -- how many participants the lines belong to
 abbrev pub width_of : LineTable → ℕ
 width_of t = t.rows
+
+-- the room of a table stays: its limit, and how many participants its lines belong to
+abbrev pub SameRoom : LineTable → LineTable → Type 0
+SameRoom t u = (limit_of u ≡ limit_of t) × (width_of u ≡ width_of t)
 
 -- a line table has room for 1 to 4,096 lines
 abbrev pub limit_fits : ℕ → Check

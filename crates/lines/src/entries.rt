@@ -2,7 +2,7 @@
 
 ghost use Rattle.std.specs.Prelude.{◌≡◌, ◌<◌, ◌≤◌, true, [], ◌∷◌, ◌++◌, map, length, IfSome, IfOk, if◌then◌else◌, Some, None, vec_len, vec_capacity, OnOk, slice_index_or, slice_set};
 ghost use Rattle.rounds.specs.Memory.{Refuses};
-ghost use Rattle.lines.specs.Entries.{lines_of, limit_of, width_of, limit_fits, used_up, holds, line_at};
+ghost use Rattle.lines.specs.Entries.{lines_of, limit_of, width_of, SameRoom, limit_fits, used_up, holds, line_at};
 ghost use Rattle.lines.specs.Lines.{lawful_line, struck, no_line, reduced, imbalance, excess};
 ghost use Rattle.participants.specs.Rosters.{rows_of};
 
@@ -26,11 +26,10 @@ pub fn check_limit(limit: usize) -> Result<(), SessionFault>
     ensures answer { result ≡ limit_fits limit }
     ensures within { OnOk result (limit ≤ 4096) }
 {
-    if limit < 1 || limit > MOST_LINES {
-        Err(SessionFault::LineLimit)
-    } else {
-        Ok(())
+    if !(1..=MOST_LINES).contains(&limit) {
+        return Err(SessionFault::LineLimit);
     }
+    Ok(())
 }
 
 impl Line {
@@ -86,8 +85,7 @@ impl LineTable {
         requires room { vec_len self.old.lines < self.old.limit }
         requires sound { lawful_line self.old.rows line ≡ true }
         ensures lines { lines_of self.new ≡ lines_of self.old ++ line ∷ [] }
-        ensures limit { limit_of self.new ≡ limit_of self.old }
-        ensures rows { width_of self.new ≡ width_of self.old }
+        ensures room { SameRoom self.old self.new }
     {
         self.buys = Lots(self.buys.0 + line.lots_on(Side::Buy).0);
         self.sells = Lots(self.sells.0 + line.lots_on(Side::Sell).0);
@@ -98,8 +96,7 @@ impl LineTable {
     pub fn enter(&mut self, line: Line) -> Option<u32>
         ensures number { result ≡ (if holds self.old line then Some (length (lines_of self.old)) else None) }
         ensures lines { lines_of self.new ≡ (if holds self.old line then lines_of self.old ++ line ∷ [] else lines_of self.old) }
-        ensures limit { limit_of self.new ≡ limit_of self.old }
-        ensures rows { width_of self.new ≡ width_of self.old }
+        ensures room { SameRoom self.old self.new }
     {
         if self.is_used_up() || !self.bears(&line) {
             return None;
@@ -114,19 +111,14 @@ impl LineTable {
         ensures value { result ≡ line_at (lines_of self.now) number }
         ensures within { IfSome result (λ l. (l.lots.0 ≤ 40000) × (l.price.0 ≤ 10000000)) }
     {
-        if (number as usize) < self.lines.len() {
-            Some(self.lines[number as usize])
-        } else {
-            None
-        }
+        self.lines.get(number as usize).copied()
     }
 
     /// Takes lots off a line that was made.
     fn take_off(&mut self, line: usize, lots: Lots)
         requires { line < vec_len self.old.lines }
         ensures lines { lines_of self.new ≡ slice_set (lines_of self.old) line (reduced (slice_index_or (lines_of self.old) line no_line) lots.0) }
-        ensures limit { limit_of self.new ≡ limit_of self.old }
-        ensures rows { width_of self.new ≡ width_of self.old }
+        ensures room { SameRoom self.old self.new }
     {
         let old = self.lines[line];
         let new = old.less(lots);
@@ -138,8 +130,7 @@ impl LineTable {
     /// Takes lots off a line, as many as it has; one that was not made has none.
     pub fn reduce(&mut self, line: u32, lots: Lots)
         ensures lines { lines_of self.new ≡ slice_set (lines_of self.old) line (reduced (slice_index_or (lines_of self.old) line no_line) lots.0) }
-        ensures limit { limit_of self.new ≡ limit_of self.old }
-        ensures rows { width_of self.new ≡ width_of self.old }
+        ensures room { SameRoom self.old self.new }
     {
         if (line as usize) < self.lines.len() {
             self.take_off(line as usize, lots);
@@ -158,7 +149,7 @@ impl LineTable {
     pub fn excess(&self) -> Side
         ensures { result ≡ excess (lines_of self.now) }
     {
-        if self.buys.0 > self.sells.0 {
+        if self.buys > self.sells {
             Side::Buy
         } else {
             Side::Sell

@@ -28,17 +28,18 @@ impl Fill {
         match side {
             Side::Buy => Fill {
                 bought: Lots(self.bought.0 + lots.0),
-                sold: self.sold,
+                ..self
             },
             Side::Sell => Fill {
-                bought: self.bought,
                 sold: Lots(self.sold.0 + lots.0),
+                ..self
             },
         }
     }
 }
 
 /// Gives each line's standing lots to its row, in one pass over the lines.
+// room for the most rows there can be, since a call takes no memory
 fn fill_lines(lines: &[Line]) -> [Fill; MOST_ROWS]
     requires few { length lines.now ≤ 4096 }
     requires sound { lawful 256 lines.now ≡ true }
@@ -68,11 +69,12 @@ fn share_out<P: SharingPolicy>(
     requires room { length fills.old ≡ 256 }
     requires excess { excess.0 ≤ 163840000 }
     requires stood { (side : Side) (k : ℕ) → k < 256 → filled_on side (slice_index_or fills.old k no_fill) ≤ 163840000 }
-    ensures { (side : Side) (k : ℕ) → k < 256 → filled_on side (slice_index_or fills.new k no_fill) ≡ filled_on side (slice_index_or fills.old k no_fill) + (if same_side taker side then share_of (P.SharingPolicy.share policy.now members excess.0) rows.now k else 0) }
+    ensures { (side : Side) (k : ℕ) → k < 256 → filled_on side (slice_index_or fills.new k no_fill) ≡ filled_on side (slice_index_or fills.old k no_fill) + (if same_side taker side then share_of (P.share policy.now members excess.0) rows.now k else 0) }
 {
+    // the place among the Fixing Members, which is no number of a row
     let mut place: u32 = 0;
-    for row in 0..rows.len() {
-        if rows[row].kind.is_fixing() {
+    for (row, participant) in rows.iter().enumerate() {
+        if participant.kind.is_fixing() {
             fills[row] = fills[row].with(taker, policy.share_of(members, excess, place));
             place += 1;
         }
@@ -88,8 +90,8 @@ impl LineTable {
         participants: &Participants,
         policy: &P,
     ) -> [Fill; MOST_ROWS]
-        ensures value { result ≡ fills_of (shares_of P.SharingPolicy.share policy.now (rows_of participants.now) (lines_of self.now)) (rows_of participants.now) (lines_of self.now) }
-        ensures shared { Shared (shares_of P.SharingPolicy.share policy.now (rows_of participants.now) (lines_of self.now)) (rows_of participants.now) (imbalance (lines_of self.now)) }
+        ensures value { result ≡ fills_of (shares_of P.share policy.now (rows_of participants.now) (lines_of self.now)) (rows_of participants.now) (lines_of self.now) }
+        ensures shared { Shared (shares_of P.share policy.now (rows_of participants.now) (lines_of self.now)) (rows_of participants.now) (imbalance (lines_of self.now)) }
         ensures level { width_of self.now ≡ length (rows_of participants.now) → Level (take (length (rows_of participants.now)) result) }
     {
         let mut fills = fill_lines(self.lines.as_slice());

@@ -9,11 +9,8 @@ use measures::{Fen, Lots, Ticks};
 /// What lots at a price freeze: lots × price × the contract's margin figure. That of a tender at a price always fits; what
 /// 64 bits cannot hold counts as the most that they hold.
 pub fn margin_of<C: QuotedContract>(lots: Lots, price: Ticks) -> Fen
-    ensures value { result.0 ≡ min (amount C.QuotedContract.margin lots.0 price.0) (2 ^ 64 - 1) }
-    ensures fits { lots.0 ≤ 40000 → price.0 ≤ 10000000 → result.0 ≡ amount C.QuotedContract.margin lots.0 price.0 }
+    ensures value { result.0 ≡ min (amount C.MARGIN.0 lots.0 price.0) (2 ^ 64 - 1) }
+    ensures fits { lots.0 ≤ 40000 → price.0 ≤ 10000000 → result.0 ≡ amount C.MARGIN.0 lots.0 price.0 }
 {
-    match lots.amount(price, C::margin_figure()) {
-        Some(fen) => fen,
-        None => Fen(u64::MAX),
-    }
+    lots.amount(price, C::MARGIN).unwrap_or(Fen(u64::MAX))
 }

@@ -1,18 +1,11 @@
 //! What the measures make of one another.
 
-ghost use Rattle.std.specs.Prelude.{◌≡◌, ◌*◌, min};
+ghost use Rattle.std.specs.Prelude.{◌≡◌, ◌*◌};
 ghost use Rattle.measures.specs.Amounts.{apart, amount, fitting};
 
 use crate::{Fen, Lots, Ticks};
 
 impl Lots {
-    /// The smaller of two.
-    pub fn least(self, other: Lots) -> Lots
-        ensures { result.0 ≡ min self.0 other.0 }
-    {
-        Lots(self.0.min(other.0))
-    }
-
     /// How far two are apart.
     pub fn apart(self, other: Lots) -> Lots
         ensures { result.0 ≡ apart self.0 other.0 }
@@ -24,10 +17,10 @@ impl Lots {
     pub fn amount(self, price: Ticks, figure: Fen) -> Option<Fen>
         ensures { result ≡ fitting (amount figure.0 self.0 price.0) }
     {
-        match figure.0.checked_mul(self.0 as u64 * price.0 as u64) {
-            Some(fen) => Some(Fen(fen)),
-            None => None,
-        }
+        figure
+            .0
+            .checked_mul(self.0 as u64 * price.0 as u64)
+            .map(Fen)
     }
 }
 

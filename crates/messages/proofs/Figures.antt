@@ -1,26 +1,36 @@
 -- The figures of words, one by one and two by two.
-use Rattle.std.proofs.Common.{◌≡◌, ℕ, zero, suc, ◌+◌, ◌-◌, ◌*◌, ◌/◌, ◌<◌, ◌≤◌, List, [], ◌∷◌, ◌++◌, map, length, get_or, sym, refl, arith, Bor}
-use Rattle.std.proofs.lemmas.List.{length-map, get_or_append_left, get_or-append_right}
+use Rattle.std.proofs.Common.{◌≡◌, ℕ, zero, suc, ◌+◌, ◌*◌, ◌/◌, List, [], ◌∷◌, map, length, get_or, slice_get, Option, sym, refl, ap, ◌∙◌, arith}
+use Rattle.std.specs.Option.{unwrap_or, option_map}
+use Rattle.std.specs.Simd.{first_chunks}
+use Rattle.std.proofs.lemmas.Option.{unwrap_or-slice_get, slice_get-map}
 use Rattle.measures.specs.declared.Ticks.{Ticks}
 use Rattle.participants.specs.Participants.{unlisted}
 use Rattle.messages.specs.declared.rows.OpenRow.{OpenRow}
-use Rattle.messages.specs.declared.rows.Rows.{Rows}
-use Rattle.messages.specs.declared.rows.Rows.TheVariants as rows
+use Rattle.messages.specs.declared.lent.Lent.{Lent}
+use Rattle.messages.specs.declared.lent.Lent.TheVariants.{Words, Typed}
 use Rattle.messages.specs.Kinds.{figure_of}
-use Rattle.messages.specs.Prices.{ticks}
-use Rattle.messages.specs.Rows.{row_of, blank_row, participant_figure, paired, rows_of, listed_of}
+use Rattle.messages.specs.Lent.{lent_of}
+use Rattle.messages.specs.Prices.{ticks, priced, prices_of}
+use Rattle.messages.specs.Rows.{row_of, blank_row, participant_figure, paired, listed_of}
 use Rattle.messages.specs.Rows.{flat}
 
--- past the end both sides are 0
-pub get_or-figures : (ws : List ℕ) (i : ℕ) → get_or (map figure_of ws) i 0 ≡ figure_of (get_or ws i 0)
-get_or-figures [] i = refl
-get_or-figures (w ∷ ws) zero = refl
-get_or-figures (w ∷ ws) (suc i) = get_or-figures ws i
+-- the ticks of a price, and none past the end
+pub get_or-ticks : (ps : List Ticks) (i : ℕ) (none : Ticks) → none.0 ≡ 0 → (get_or ps i none).0 ≡ get_or (map ticks ps) i 0
+get_or-ticks [] i none z = z
+get_or-ticks (p ∷ ps) zero none z = refl
+get_or-ticks (p ∷ ps) (suc i) none z = get_or-ticks ps i none z
 
-pub get_or-ticks : (ps : List Ticks) (i : ℕ) (d : Ticks) → i < length ps → (get_or ps i d).0 ≡ get_or (map ticks ps) i 0
-get_or-ticks [] i d h = absurd (omega arith)
-get_or-ticks (p ∷ ps) zero d h = refl
-get_or-ticks (p ∷ ps) (suc i) d h = get_or-ticks ps i d (omega arith)
+map-ticks-priced : (fs : List ℕ) → map ticks (priced fs) ≡ fs
+map-ticks-priced [] = refl
+map-ticks-priced (f ∷ fs) = ap (λ t. f ∷ t) (map-ticks-priced fs)
+
+map-ticks-lent : (ps : Lent Ticks) → map ticks (lent_of priced ps) ≡ prices_of ps
+map-ticks-lent (Words ws) = map-ticks-priced (map figure_of ws.now)
+map-ticks-lent (Typed ps) = refl
+
+pub price-lent : (ps : Lent Ticks) (i : ℕ) (none : Ticks) → none.0 ≡ 0 → (unwrap_or (slice_get (lent_of priced ps) i) none).0 ≡ get_or (prices_of ps) i 0
+price-lent ps i none z =
+    ap (λ t. t.0) (unwrap_or-slice_get (lent_of priced ps) i none) ∙ get_or-ticks (lent_of priced ps) i none z ∙ ap (λ fs. get_or fs i 0) (map-ticks-lent ps)
 
 pub get_or-listed : (rs : List OpenRow) (i : ℕ) → listed_of (get_or rs i blank_row) ≡ get_or (map listed_of rs) i unlisted
 get_or-listed [] i = refl
@@ -32,14 +42,22 @@ length-paired [] = refl
 length-paired (x ∷ []) = refl
 length-paired (x ∷ y ∷ fs) = omega (arith, length-paired fs)
 
-pub get_or-paired : (fs : List ℕ) (i : ℕ) → i < length (paired fs) → get_or (paired fs) i blank_row ≡ row_of (get_or fs (2 * i) 0) (get_or fs (2 * i + 1) 0)
-get_or-paired [] i h = absurd (omega arith)
-get_or-paired (x ∷ []) i h = absurd (omega arith)
-get_or-paired (x ∷ y ∷ fs) zero h = refl
-get_or-paired (x ∷ y ∷ fs) (suc i) h =
-    let e : 2 * suc i ≡ suc (suc (2 * i)) = omega arith in
-    let o : 2 * suc i + 1 ≡ suc (suc (2 * i + 1)) = omega arith in
-    rw (o, e) (get_or-paired fs i (omega arith))
+-- the row of two words
+abbrev pub row_of_pair : List ℕ → OpenRow
+row_of_pair p = row_of (figure_of (get_or p 0 0)) (figure_of (get_or p 1 0))
+
+-- the rows of words are those of their pairs
+paired-chunks : (ws : List ℕ) → paired (map figure_of ws) ≡ map row_of_pair (first_chunks 2 (length ws / 2) ws)
+paired-chunks [] = refl
+paired-chunks (x ∷ []) = refl
+paired-chunks (x ∷ y ∷ ws) =
+    let n : length (x ∷ y ∷ ws) / 2 ≡ suc (length ws / 2) = omega arith in
+    rw n (ap (λ rs. row_of (figure_of x) (figure_of y) ∷ rs) (paired-chunks ws))
+
+pub get-paired : (ws : List ℕ) (pairs : List (List ℕ)) (i : ℕ) (o : Option (List ℕ)) → pairs ≡ first_chunks 2 (length ws / 2) ws → slice_get pairs i ≡ o
+    → slice_get (paired (map figure_of ws)) i ≡ option_map row_of_pair o
+get-paired ws pairs i o e h =
+    ap (λ rs. slice_get rs i) (paired-chunks ws ∙ ap (map row_of_pair) (sym e)) ∙ slice_get-map row_of_pair pairs i ∙ ap (option_map row_of_pair) h
 
 pub length-flat : (rs : List OpenRow) → length (flat rs) ≡ 2 * length rs
 length-flat [] = refl
@@ -54,18 +72,3 @@ pub flat-second : (rs : List OpenRow) (i j : ℕ) → j ≡ 2 * i + 1 → get_or
 flat-second [] i j e = refl
 flat-second (r ∷ rs) zero j e = let z : j ≡ 1 = omega arith in rw z
 flat-second (r ∷ rs) (suc i) j e = let z : j ≡ suc (suc (2 * i + 1)) = omega arith in rw z (flat-second rs i (2 * i + 1) refl)
-
--- how many rows there are
-pub count-words : (s : Rows) (ws : Bor (List ℕ)) → s ≡ rows.Words ws → length ws.now / 2 ≡ length (map listed_of (rows_of s))
-count-words s ws e = rw e (simp (length-map, length-paired))
-
-pub count-typed : (s : Rows) (rs : Bor (List OpenRow)) → s ≡ rows.Typed rs → length rs.now ≡ length (map listed_of (rows_of s))
-count-typed s rs e = rw e (simp length-map)
-
--- a figure behind a message's verb: a field, or one of the tail
-module _ (n : ℕ) (hs ts : List ℕ) (i j : ℕ) (behind : i ≡ suc j) where
-  pub in-fields : j < length hs → get_or hs j 0 ≡ get_or (n ∷ (hs ++ ts)) i 0
-  in-fields h = rw behind (sym (get_or_append_left hs ts 0 j h))
-
-  pub in_tail : (k : ℕ) → k ≡ j - length hs → length hs ≤ j → get_or ts k 0 ≡ get_or (n ∷ (hs ++ ts)) i 0
-  in_tail k e h = rw (behind, e) (sym (get_or-append_right hs ts (length hs) j 0 refl h))

@@ -1,6 +1,5 @@
 pub mod Cuts
 pub mod Figures
 pub mod Matches
-pub mod Places
 pub mod Stamps
 pub mod Trip

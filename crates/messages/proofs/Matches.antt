@@ -1,14 +1,14 @@
 -- A step of the words against the kinds that have to come.
-use Rattle.std.proofs.Common.{◌≡◌, ℕ, suc, ◌+◌, ◌-◌, ◌<◌, ◌≤◌, Bool, true, false, cond, eqb, List, [], ◌∷◌, length, get_or, take, drop, Ok, Err, Result, sym, refl, ap, ◌∙◌, arith}
-use Rattle.std.proofs.lemmas.Bool.{true≢false, eqb-true, eq-eqb, leb-true, le-leb}
-use Rattle.std.proofs.lemmas.List.{at_drop_more, at_drop_all, take_rest}
+use Rattle.std.proofs.Common.{◌≡◌, ℕ, suc, ◌+◌, ◌<◌, Bool, true, false, cond, List, [], ◌∷◌, length, get_or, drop, Ok, Err, Result, sym, refl, ap, ◌∙◌, arith}
+use Rattle.std.proofs.lemmas.Bool.{eqb-true, eq-eqb, leb-true, le-leb}
+use Rattle.std.proofs.lemmas.List.{at_drop_more}
 use Rattle.messages.specs.declared.kinds.Kind.{Kind}
 use Rattle.messages.specs.declared.faults.MessageFault.{MessageFault}
 use Rattle.messages.specs.declared.faults.MessageFault.TheVariants.{Misfit}
 use Rattle.messages.specs.declared.verbs.Verb.{Verb}
 use Rattle.messages.specs.Kinds.{is_kind}
 use Rattle.messages.specs.Verbs.{first, again}
-use Rattle.messages.specs.Reading.{coming, leads, ended, matched, fills}
+use Rattle.messages.specs.Reading.{coming, leads, matched, fills}
 
 -- a test whose failure refuses was passed
 pub then-from-cond : {X Y : Type 0} {x : X} (t : Bool) (r : Result X Y) (y : Y) → cond t r (Err y) ≡ Ok x → r ≡ Ok x
@@ -23,18 +23,6 @@ pub leads-none : (ks : List Kind) (w : ℕ) → length ks < 1 → leads ks w ≡
 leads-none [] w h = refl
 leads-none (k ∷ ks) w h = absurd (omega arith)
 
-pub leads-some : (ks : List Kind) (d : Kind) (w : ℕ) → 1 ≤ length ks → leads ks w ≡ is_kind (get_or ks 0 d) w
-leads-some [] d w h = absurd (omega arith)
-leads-some (k ∷ ks) d w h = refl
-
-pub ends_some : (ks : List Kind) (i : ℕ) → eqb (length ks) 0 ≡ false → ended ks i ≡ Err (Misfit i)
-ends_some [] i h = absurd (true≢false h)
-ends_some (k ∷ ks) i h = refl
-
-pub ends-none : (ks : List Kind) (i : ℕ) → eqb (length ks) 0 ≡ true → ended ks i ≡ Ok tt
-ends-none [] i h = refl
-ends-none (k ∷ ks) i h = absurd (omega (arith, eqb-true (length (k ∷ ks)) 0 h))
-
 -- place i, where `left` still has to come, and the words before it have matched
 module _ (more left : List Kind) (ws : List ℕ) (i : ℕ) (X : Result (Unit {0}) MessageFault) (so_far : matched more left i (drop i ws) ≡ X) where
   pub refused-here : (ks : List Kind) → ks ≡ coming more left → i < length ws → leads ks (get_or ws i 0) ≡ false → Err (Misfit i) ≡ X
@@ -42,15 +30,6 @@ module _ (more left : List Kind) (ws : List ℕ) (i : ℕ) (X : Result (Unit {0}
       let m = at_drop_more (matched more left i) ws i 0 lt in
       let f : leads (coming more left) (get_or ws i 0) ≡ false = rw e at h in
       simp f at (sym m ∙ so_far)
-
-  pub passed_here : (ks : List Kind) → ks ≡ coming more left → i < length ws → leads ks (get_or ws i 0) ≡ true → matched more (take (length ks - 1) (drop 1 ks)) (i + 1) (drop (i + 1) ws) ≡ X
-  passed_here ks e lt h =
-      let m = at_drop_more (matched more left i) ws i 0 lt in
-      let f : leads (coming more left) (get_or ws i 0) ≡ true = rw e at h in
-      rw (take_rest ks 1, e) (simp f at (sym m ∙ so_far))
-
-  pub at-the-end : i ≡ length ws → ended left (length ws) ≡ X
-  at-the-end h = rw (← h) (sym (at_drop_all (matched more left i) ws i (omega arith)) ∙ so_far)
 
 -- words that match are as many as their verb asks
 pub fills-from-matched : (more left : List Kind) (i : ℕ) (ws : List ℕ) → matched more left i ws ≡ Ok tt → fills more left (length ws) ≡ true

@@ -1,10 +1,10 @@
 -- Figures written one by one as the words of a message.
-use Rattle.std.proofs.Common.{◌≡◌, ℕ, suc, ◌+◌, ◌-◌, ◌^◌, ◌<◌, ◌≤◌, Bool, true, false, cond, List, [], ◌∷◌, ◌++◌, length, get_or, take, drop, set, Some, None, Ok, Err, Option, sym, refl, ap, ◌∙◌, arith}
+use Rattle.std.proofs.Common.{◌≡◌, ℕ, zero, suc, ◌+◌, ◌-◌, ◌^◌, ◌<◌, ◌≤◌, Bool, true, false, cond, List, [], ◌∷◌, ◌++◌, length, get_or, take, drop, set, Some, None, Option, MatchOption, sym, refl, ap, ◌∙◌, arith}
 use Rattle.std.specs.List.{AllByRecursion}
-use Rattle.std.proofs.lemmas.List.{at_drop_more, at_drop_all, drop_more, take_more, take_rest, take-append-drop, length-drop, length-take-le, set_at, append-nil, append_assoc}
-use Rattle.std.proofs.lemmas.Bool.{lt-ltb, le-ltb, cond-true, cond-false, false≢true}
+use Rattle.std.specs.Option.{option_map}
+use Rattle.std.proofs.lemmas.List.{at_drop_more, drop_more, take_more, take_rest, length-drop, length-take-le, set_at, append_assoc}
+use Rattle.std.proofs.lemmas.Bool.{false≢true}
 use Rattle.std.proofs.lemmas.Bool.Decides.{nat_tests}
-use Rattle.messages.specs.declared.faults.MessageFault.TheVariants.{Misfit, Short}
 use Rattle.messages.specs.declared.verbs.Verb.{Verb}
 use Rattle.messages.specs.declared.kinds.Kind.{Kind}
 use Rattle.messages.specs.declared.kinds.Kind.TheVariants as kind
@@ -14,7 +14,7 @@ use Rattle.messages.specs.declared.calls.Metal.TheVariants.{Gold, Silver}
 use Rattle.messages.specs.Kinds.{word_of}
 use Rattle.messages.specs.Verbs.{first, again}
 use Rattle.messages.specs.Reading.{coming}
-use Rattle.messages.specs.Writing.{opens, stamp, stamped, counted, writable, first_over, written_unless, writing_figures}
+use Rattle.messages.specs.Writing.{opens, stamp, stamped, counted, writable, first_over}
 use Rattle.messages.specs.Rows.{flat}
 
 -- after i figures: what was written, and what is still to be stamped
@@ -62,7 +62,7 @@ module _ {more kinds left : List Kind} {fs : List ℕ} {i : ℕ} {was now : List
   next-counted : i < length fs → (1 ≤ length (coming more left)) × (counted more (drop 1 (coming more left)) (drop (i + 1) fs) ≡ true)
   next-counted h = counted-some more left (get_or fs i 0) (drop (i + 1) fs) (sym (at_drop_more (counted more left) fs i 0 h) ∙ F.count)
 
-  pub comes : (ks : List Kind) → ks ≡ coming more left → i < length fs → 1 ≤ length ks
+  comes : (ks : List Kind) → ks ≡ coming more left → i < length fs → 1 ≤ length ks
   comes ks e h = rw e (next-counted h).0
 
   pub fill_more : (ks : List Kind) (d : Kind) (v : ℕ) → ks ≡ coming more left → v ≡ word_of (get_or ks 0 d) (get_or fs i 0) → i < length fs → i < length was
@@ -80,42 +80,38 @@ module _ {more kinds left : List Kind} {fs : List ℕ} {i : ℕ} {was now : List
         count = (next-counted h).1;
       })
 
-  pub fill-all : (n : ℕ) → n ≡ i → length fs ≤ i → now ≡ stamped more kinds fs ++ drop n was
-  fill-all n q h =
-      let none : drop i (stamped more kinds fs) ≡ [] = F.rest ∙ at_drop_all (stamped more left) fs i h in
-      let all : take i (stamped more kinds fs) ≡ stamped more kinds fs =
-      sym (append-nil _) ∙ ap (λ x. take i (stamped more kinds fs) ++ x) (sym none) ∙ take-append-drop i (stamped more kinds fs) in
-      rw q (F.front ∙ ap (λ x. x ++ drop i was) all)
+-- r is the first of these places, the first of which is s, that cannot be written
+abbrev OverAt : List ℕ → ℕ → Option ℕ → Type 0
+OverAt fs s r =
+    MatchOption r ((k : ℕ) → k < length fs → writable (s + k) (get_or fs k 0) ≡ true)
+    (λ i. (i < length fs) × (writable (s + i) (get_or fs i 0) ≡ false) × ((k : ℕ) → k < i → writable (s + k) (get_or fs k 0) ≡ true))
 
--- a step of the search for a figure that cannot be written
-module _ (fs : List ℕ) (i : ℕ) (X : Option ℕ) (so_far : first_over i (drop i fs) ≡ X) where
-  over-step : (b : Bool) → i < length fs → b ≡ writable i (get_or fs i 0) → cond b (first_over (i + 1) (drop (i + 1) fs)) (Some i) ≡ X
-  over-step b h q = ap (λ t. cond t (first_over (i + 1) (drop (i + 1) fs)) (Some i)) q ∙ sym (at_drop_more (first_over i) fs i 0 h) ∙ so_far
+writable_at : (m n f : ℕ) (b : Bool) → m ≡ n → writable m f ≡ b → writable n f ≡ b
+writable_at m n f b e h = ap (λ k. writable k f) (sym e) ∙ h
 
-  pub over-here : i < length fs → false ≡ writable i (get_or fs i 0) → Some i ≡ X
-  over-here h q = over-step false h q
+over_more : (f : ℕ) (fs : List ℕ) (s : ℕ) (x : Option ℕ) → writable (s + 0) f ≡ true → x ≡ first_over (s + 1) fs → x ≡ first_over s (f ∷ fs)
+over_more f fs s x t e = e ∙ sym (ap (λ b. cond b (first_over (s + 1) fs) (Some s)) (writable_at (s + 0) s f true (omega arith) t))
 
-  pub over-more : i < length fs → true ≡ writable i (get_or fs i 0) → first_over (i + 1) (drop (i + 1) fs) ≡ X
-  over-more h q = over-step true h q
+over_from : (fs : List ℕ) (s : ℕ) (r : Option ℕ) → OverAt fs s r → option_map (λ i. s + i) r ≡ first_over s fs
+over_from [] s None h = refl
+over_from [] s (Some i) h = absurd (omega (arith, h.0))
+over_from (f ∷ fs) s None h =
+    over_more f fs s None (h 0 (omega arith)) (over_from fs (s + 1) None (λ k p. writable_at (s + suc k) (s + 1 + k) _ true (omega arith) (h (suc k) (omega arith))))
+over_from (f ∷ fs) s (Some zero) h =
+    ap Some (omega arith) ∙ sym (ap (λ b. cond b (first_over (s + 1) fs) (Some s)) (writable_at (s + 0) s f false (omega arith) h.1))
+over_from (f ∷ fs) s (Some (suc i)) h =
+    ap Some (omega arith)
+    ∙ over_more f fs s (Some (s + 1 + i)) (h.2 0 (omega arith))
+    (over_from fs (s + 1) (Some i)
+    (omega (arith, h.0), writable_at (s + suc i) (s + 1 + i) _ false (omega arith) h.1, λ k p. writable_at (s + suc k) (s + 1 + k) _ true (omega arith) (h.2 (suc k) (omega arith))))
 
-  pub over_none : length fs ≤ i → None ≡ X
-  over_none h = sym (at_drop_all (first_over i) fs i h) ∙ so_far
-
--- the three ways that a message is written or refused
-module _ (v : Verb) (fs out : List ℕ) where
-  pub writes_short : length out < length fs → (Err Short, out) ≡ writing_figures v fs out
-  writes_short h = sym (cond-true _ _ _ (lt-ltb (length out) (length fs) h))
-
-  fits-room : length fs ≤ length out → (o : Option ℕ) → o ≡ first_over 0 fs → written_unless o v fs out ≡ writing_figures v fs out
-  fits-room h o e = ap (λ x. written_unless x v fs out) e ∙ sym (cond-false _ _ _ (le-ltb (length out) (length fs) h))
-
-  pub writes-over : (i : ℕ) → length fs ≤ length out → Some i ≡ first_over 0 fs → (Err (Misfit i), out) ≡ writing_figures v fs out
-  writes-over i h e = fits-room h (Some i) e
-
-  pub writes-all : (n : ℕ) (new : List ℕ) → n ≡ length fs → n ≤ length out → None ≡ first_over 0 fs
-      → new ≡ stamped (again v) (first v) fs ++ drop n out
-      → (Ok n, new) ≡ writing_figures v fs out
-  writes-all n new c h e q = rw (q, c) (fits-room (omega arith) None e)
+-- the first place whose figure cannot be written, as a search of all places finds it
+pub over_first : (fs : List ℕ) (r : Option ℕ) (n : ℕ) → n ≡ length fs
+    → MatchOption r ((k : ℕ) → 0 ≤ k → k < n → writable k (get_or fs k 0) ≡ true) (λ i. (0 ≤ i) × (i < n) × (writable i (get_or fs i 0) ≡ false) × ((k : ℕ) → 0 ≤ k → k < i → writable k (get_or fs k 0) ≡ true))
+    → r ≡ first_over 0 fs
+over_first fs None n e h = over_from fs 0 None (λ k p. writable_at k (0 + k) _ true (omega arith) (h k (omega arith) (omega arith)))
+over_first fs (Some i) n e h =
+    ap Some (omega arith) ∙ over_from fs 0 (Some i) (omega (arith, h.1), writable_at i (0 + i) _ false (omega arith) h.2, λ k p. writable_at k (0 + k) _ true (omega arith) (h.3 k (omega arith) p))
 
 -- the figures of begin and open are as many as may come
 pub counted-prices : (ps : List ℕ) → counted (kind.Price ∷ []) [] ps ≡ true

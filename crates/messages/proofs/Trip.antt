@@ -1,5 +1,5 @@
 -- The round trips between calls and messages.
-use Rattle.std.proofs.Common.{◌≡◌, ℕ, zero, suc, ◌+◌, ◌*◌, ◌/◌, ◌%◌, ◌^◌, ◌<◌, ◌≤◌, Bool, true, false, cond, eqb, ltb, ◌⊎◌, List, [], ◌∷◌, ◌++◌, map, length, get_or, take, drop, IfOk, IfErr, Some, None, Ok, Err, Option, Result, sym, refl, ap, ◌∙◌, subst, inl, inr, ⊎_elim, arith}
+use Rattle.std.proofs.Common.{◌≡◌, ℕ, zero, suc, ◌+◌, ◌*◌, ◌/◌, ◌%◌, ◌^◌, ◌<◌, ◌≤◌, Bool, true, false, cond, eqb, ltb, ◌⊎◌, List, [], ◌∷◌, ◌++◌, map, length, get_or, take, drop, IfOk, Some, None, Ok, Err, Option, Result, sym, refl, ap, ◌∙◌, subst, inl, inr, ⊎_elim, arith}
 use Rattle.std.specs.List.{AllByRecursion}
 use Rattle.std.proofs.lemmas.Bool.{false≢true, eqb-true, eq-eqb, leb-true}
 use Rattle.std.proofs.lemmas.Bool.Decides.{nat_tests}
@@ -229,31 +229,19 @@ writes-back m c e = from-verb (verb_of (get_or m 0 0)) m c refl e
 
 -- ---- a call that is written at the front of a list
 
-ComesBack : Said → List ℕ → Result ℕ MessageFault × List ℕ → Type 0
-ComesBack c out p = IfOk p.0 (λ n. take n p.1 ≡ words_of c) × IfOk p.0 (λ n. reading (take n p.1) ≡ Ok c) × IfErr p.0 (λ _. p.1 ≡ out)
+ReadBack : Said → Result ℕ MessageFault × List ℕ → Type 0
+ReadBack c p = IfOk p.0 (λ n. reading (take n p.1) ≡ Ok c)
 
-comes_back : (c : Said) (out : List ℕ) (t : Bool) (o : Option ℕ) → first_over 0 (figures c) ≡ o
-    → ComesBack c out (cond t (Err Short, out) (written_unless o (verb_in c) (figures c) out))
-unfolding ComesBack
-comes_back c out true o e = (tt, tt, refl)
-comes_back c out false (Some i) e = (tt, tt, refl)
-comes_back c out false None e =
+read_back : (c : Said) (out : List ℕ) (t : Bool) (o : Option ℕ) → first_over 0 (figures c) ≡ o
+    → ReadBack c (cond t (Err Short, out) (written_unless o (verb_in c) (figures c) out))
+unfolding ReadBack
+read_back c out true o e = tt
+read_back c out false (Some i) e = tt
+read_back c out false None e =
     let front : take (length (figures c)) (words_of c ++ drop (length (figures c)) out) ≡ words_of c =
     take_at (words_of c) _ (length (figures c)) (length-stamped (again (verb_in c)) (first (verb_in c)) (figures c)) in
-    (front, ap reading front ∙ reads-back c (fits-from-over (figures c) 0 e), tt)
+    ap reading front ∙ reads-back c (fits-from-over (figures c) 0 e)
 
-module _ (c : Said) (out new : List ℕ) (r : Result ℕ MessageFault) (e : (r, new) ≡ writing c out) where
-  written : ComesBack c out (r, new)
-  written = subst (ComesBack c out) (sym e) (comes_back c out (ltb (length out) (length (figures c))) (first_over 0 (figures c)) refl)
-
-  pub written-front : IfOk r (λ n. take n new ≡ words_of c)
-  unfolding ComesBack
-  written-front = written.0
-
-  pub written_back : IfOk r (λ n. reading (take n new) ≡ Ok c)
-  unfolding ComesBack
-  written_back = written.1
-
-  pub written-kept : IfErr r (λ _. new ≡ out)
-  unfolding ComesBack
-  written-kept = written.2
+pub written_back : (c : Said) (out new : List ℕ) (r : Result ℕ MessageFault) → (r, new) ≡ writing c out → IfOk r (λ n. reading (take n new) ≡ Ok c)
+unfolding ReadBack
+written_back c out new r e = subst (ReadBack c) (sym e) (read_back c out (ltb (length out) (length (figures c))) (first_over 0 (figures c)) refl)

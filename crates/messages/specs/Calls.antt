@@ -30,3 +30,16 @@ said (Suspend time) = suspend time
 said (Reissue time price) = reissue time price.0
 said (Announce time price) = announce time price.0
 said (Open time metal price rows) = opened metal time price.0 (rows_of rows)
+
+-- when a call is made
+abbrev pub time_of : Said → ℕ
+time_of (quote time row price) = time
+time_of (begin time prices) = time
+time_of (buy time row lots) = time
+time_of (sell time row lots) = time
+time_of (reduce time row line lots) = time
+time_of (close time) = time
+time_of (suspend time) = time
+time_of (reissue time price) = time
+time_of (announce time price) = time
+time_of (opened metal time price rows) = time

@@ -2,6 +2,7 @@ pub mod Answers
 pub mod Calls
 pub mod Faults
 pub mod Kinds
+pub mod Lent
 pub mod Messages
 pub mod Prices
 pub mod Reading

@@ -1,4 +1,4 @@
-use Rattle.std.specs.Prelude.{ℕ, suc, cond, List, [], ◌∷◌, drop}
+use Rattle.std.specs.Prelude.{ℕ, suc, cond, List, [], ◌∷◌}
 use Rattle.messages.specs.declared.kinds.Kind.TheVariants.{Verb}
 use Rattle.messages.specs.declared.reader.Reader.{Reader}
 use Rattle.messages.specs.Kinds.{is_kind}
@@ -20,4 +20,4 @@ messages (w ∷ x ∷ ws) = cond (is_kind Verb x) ((w ∷ []) ∷ messages (x �
 
 -- what a reader has still to give
 abbrev pub unread : Reader → List ℕ
-unread s = drop s.place s.words.now
+unread s = s.rest.now

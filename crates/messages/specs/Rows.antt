@@ -1,9 +1,8 @@
-use Rattle.std.specs.Prelude.{ℕ, ◌+◌, ◌*◌, ◌/◌, ◌%◌, ◌^◌, cond, ◌&&◌, List, [], ◌∷◌, map, nat_lt}
+use Rattle.std.specs.Prelude.{ℕ, ◌+◌, ◌*◌, ◌/◌, ◌%◌, ◌^◌, cond, ◌&&◌, List, [], ◌∷◌, nat_lt}
 use Rattle.participants.specs.declared.rows.Listed.{Listed}
 use Rattle.messages.specs.declared.rows.OpenRow.{OpenRow}
-use Rattle.messages.specs.declared.rows.Rows.{Rows}
-use Rattle.messages.specs.declared.rows.Rows.TheVariants.{Words, Typed}
-use Rattle.messages.specs.Kinds.{figure_of}
+use Rattle.messages.specs.declared.lent.Lent.{Lent}
+use Rattle.messages.specs.Lent.{lent_of}
 
 -- the row of two figures: a participant's kind × 65,536 and carrier, and its free millions of fen
 abbrev pub row_of : ℕ → ℕ → OpenRow
@@ -29,9 +28,8 @@ flat [] = []
 flat (r ∷ rs) = participant_figure r ∷ r.millions ∷ flat rs
 
 -- the rows, wherever they lie
-abbrev pub rows_of : Rows → List OpenRow
-rows_of (Words ws) = paired (map figure_of ws.now)
-rows_of (Typed rs) = rs.now
+abbrev pub rows_of : Lent OpenRow → List OpenRow
+rows_of rs = lent_of paired rs
 
 -- a row as the session takes it
 abbrev pub listed_of : OpenRow → Listed

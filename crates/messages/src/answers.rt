@@ -4,7 +4,7 @@ ghost use Rattle.std.specs.Prelude.{◌≡◌};
 ghost use Rattle.messages.specs.Answers.{answer_words};
 
 use crate::faults::MessageFault;
-use crate::kinds::{Kind, word};
+use crate::kinds::{FIGURES, Kind, word};
 use crate::verbs::Verb;
 use rounds::answers::{Standing, Tendered};
 
@@ -33,7 +33,7 @@ pub fn answer_words(answer: Result<Answer, MessageFault>, verb: Option<Verb>) ->
         ],
         Err(fault) => [
             word(Kind::Number, fault.number()),
-            word(Kind::Place, (fault.place(verb) % 0x1000_0000) as u32),
+            word(Kind::Place, (fault.place(verb) % FIGURES as usize) as u32),
         ],
     }
 }

@@ -1,14 +1,31 @@
 //! A message as a call: its figures as they came, however wrong, until the session checks them.
 
+ghost use Rattle.std.specs.Prelude.{◌≡◌};
+ghost use Rattle.messages.specs.Calls.{said, time_of};
+ghost use Rattle.messages.specs.Writing.{opens};
+
 use crate::prices::Prices;
 use crate::rows::Rows;
+use crate::verbs::Verb;
 use measures::{Lots, Ticks};
 
 /// Which contract a session trades.
-#[derive(Clone, Copy)]
+#[derive(Clone, Copy, PartialEq, Eq, Debug)]
 pub enum Metal {
     Gold,
     Silver,
+}
+
+/// The verb that opens a session.
+impl From<Metal> for Verb {
+    ghost from_gives = { λ m v. v ≡ opens m };
+
+    fn from(metal: Metal) -> Verb {
+        match metal {
+            Metal::Gold => Verb::OpenGold,
+            Metal::Silver => Verb::OpenSilver,
+        }
+    }
 }
 
 /// A message as a call. Times are in milliseconds since midnight.
@@ -69,4 +86,24 @@ pub enum Call<'a> {
         price: Ticks,
         rows: Rows<'a>,
     },
+}
+
+impl<'a> Call<'a> {
+    /// When the call is made.
+    pub fn time(&self) -> u32
+        ensures { result ≡ time_of (said self.now) }
+    {
+        match *self {
+            Call::Quote { time, .. }
+            | Call::Begin { time, .. }
+            | Call::Buy { time, .. }
+            | Call::Sell { time, .. }
+            | Call::Reduce { time, .. }
+            | Call::Close { time }
+            | Call::Suspend { time }
+            | Call::Reissue { time, .. }
+            | Call::Announce { time, .. }
+            | Call::Open { time, .. } => time,
+        }
+    }
 }

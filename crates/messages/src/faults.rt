@@ -7,6 +7,7 @@ ghost use Rattle.messages.specs.declared.faults.MessageFault.TheVariants.{Sessio
 use crate::kinds::Kind;
 use crate::verbs::Verb;
 use rounds::faults::SessionFault;
+use session::lists::MOST_PRICES;
 
 /// A refusal of a message.
 #[derive(Clone, Copy, PartialEq, Eq, Debug)]
@@ -40,6 +41,7 @@ impl From<SessionFault> for MessageFault {
 
 impl MessageFault {
     /// The number of the refusal.
+    // by name: `u32::from` would not say what the number is, and variants that carry a value have none of their own
     pub fn number(self) -> u32
         ensures { result ≡ number_of self }
     {
@@ -55,8 +57,7 @@ impl MessageFault {
         ensures { result ≡ layer_of self }
     {
         match self {
-            MessageFault::Misfit { .. } => Layer::Message,
-            MessageFault::Short => Layer::Message,
+            MessageFault::Misfit { .. } | MessageFault::Short => Layer::Message,
             MessageFault::Session(SessionFault::Book(_)) => Layer::Book,
             MessageFault::Session(_) => Layer::Session,
         }
@@ -84,7 +85,7 @@ fn word_at_fault(fault: SessionFault, verb: Verb) -> usize
         SessionFault::Row => verb.place_of(Kind::Row),
         SessionFault::Amount => verb.place_of(Kind::Lots),
         SessionFault::Price { at } => verb.place_of(Kind::Price).wrapping_add(at),
-        SessionFault::TooManyPrices => verb.place_of(Kind::Price).wrapping_add(10_000),
+        SessionFault::TooManyPrices => verb.place_of(Kind::Price).wrapping_add(MOST_PRICES),
         SessionFault::Participant { row } => verb
             .place_of(Kind::Participant)
             .wrapping_add(row.wrapping_mul(2)),

@@ -3,8 +3,11 @@
 ghost use Rattle.std.specs.Prelude.{◌≡◌};
 ghost use Rattle.messages.specs.Kinds.{kind_number, is_kind, figure_of, word_of};
 
+/// How many figures a word can hold, of which the largest is one less.
+pub const FIGURES: u32 = 0x1000_0000;
+
 /// What a word is about: its top four bits.
-#[derive(Clone, Copy)]
+#[derive(Clone, Copy, PartialEq, Eq, Debug)]
 pub enum Kind {
     /// Milliseconds since midnight.
     Time = 1,
@@ -36,6 +39,7 @@ pub enum Kind {
 
 impl Kind {
     /// The number of the kind.
+    // by name: `u32::from` would not say what the number is
     pub fn number(self) -> u32
         ensures { result ≡ kind_number self }
     {
@@ -54,12 +58,12 @@ pub fn is_kind(word: u32, kind: Kind) -> bool
 pub fn figure(word: u32) -> u32
     ensures { result ≡ figure_of word }
 {
-    word % 0x1000_0000
+    word % FIGURES
 }
 
 /// The word of a kind that holds the low 28 bits of a figure.
 pub fn word(kind: Kind, number: u32) -> u32
     ensures { result ≡ word_of kind number }
 {
-    kind.number() * 0x1000_0000 + figure(number)
+    kind.number() * FIGURES + figure(number)
 }

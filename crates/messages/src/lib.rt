@@ -6,6 +6,7 @@ pub mod answers;
 pub mod calls;
 pub mod faults;
 pub mod kinds;
+pub mod lent;
 pub mod prices;
 pub mod reader;
 pub mod reading;

@@ -1,7 +1,10 @@
 //! A list of words, message by message.
 
-ghost use Rattle.std.specs.Prelude.{◌≡◌, ◌+◌, ◌<◌, ◌≤◌, [], ◌∷◌, length, drop, MatchOption, MatchResult};
-ghost use Rattle.messages.specs.Messages.{span, messages, unread};
+ghost use Rattle.std.specs.Prelude.{◌≡◌, ◌<◌, ◌≤◌, [], ◌∷◌, length, MatchOption, MatchResult};
+ghost use Rattle.std.specs.List.{position};
+ghost use Rattle.messages.specs.Kinds.{is_kind};
+ghost use Rattle.messages.specs.Messages.{messages, unread};
+ghost use Rattle.messages.specs.declared.kinds.Kind.TheVariants.{Verb};
 ghost use Rattle.messages.specs.declared.faults.MessageFault.TheVariants.{Misfit};
 ghost use Rattle.std.specs.Iterator.{at_most};
 
@@ -11,22 +14,17 @@ use crate::kinds::{Kind, is_kind};
 /// Gives the messages of a list of words one after another, each as a part of the list.
 #[derive(Drop)]
 pub struct Reader<'a> {
-    words: &'a [u32],
-    place: usize,
+    rest: &'a [u32],
 }
 
-/// Where the message that starts at `start` ends: at the next verb, or with the words.
-fn end_of(words: &[u32], start: usize) -> usize
-    requires { start < length words.now }
-    ensures end { result ≡ start + 1 + span (drop (start + 1) words.now) }
-    ensures within { result ≤ length words.now }
+/// The most words of a list.
+pub const MOST_WORDS: usize = 16_384;
+
+/// Where the next verb stands.
+fn next_verb(words: &[u32]) -> Option<usize>
+    ensures { result ≡ position (is_kind Verb) words.now }
 {
-    for place in start + 1..words.len() {
-        if is_kind(words[place], Kind::Verb) {
-            return place;
-        }
-    }
-    words.len()
+    words.iter().position(|word| is_kind(*word, Kind::Verb))
 }
 
 impl<'a> Reader<'a> {
@@ -34,10 +32,10 @@ impl<'a> Reader<'a> {
     pub fn over(words: &'a [u32]) -> Result<Reader<'a>, MessageFault>
         ensures { MatchResult result (λ s. (unread s ≡ words.now) × (length words.now ≤ 16384)) (λ f. (f ≡ Misfit 16384) × (16384 < length words.now)) }
     {
-        if words.len() > 16_384 {
-            return Err(MessageFault::Misfit { place: 16_384 });
+        if words.len() > MOST_WORDS {
+            return Err(MessageFault::Misfit { place: MOST_WORDS });
         }
-        Ok(Reader { words, place: 0 })
+        Ok(Reader { rest: words })
     }
 }
 
@@ -49,12 +47,10 @@ impl<'a> Iterator for Reader<'a> {
     ghost next_gives = { λ s r t. MatchOption r (messages (unread s) ≡ []) (λ m. messages (unread s) ≡ m.now ∷ messages (unread t)) };
 
     fn next(&mut self) -> Option<&'a [u32]> {
-        let start = self.place;
-        if start >= self.words.len() {
-            return None;
-        }
-        let end = end_of(self.words, start);
-        self.place = end;
-        Some(&self.words[start..end])
+        let (_, behind) = self.rest.split_first()?;
+        let end = 1 + next_verb(behind).unwrap_or(behind.len());
+        let (message, rest) = self.rest.split_at(end);
+        self.rest = rest;
+        Some(message)
     }
 }

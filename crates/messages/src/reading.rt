@@ -47,23 +47,21 @@ fn check(message: &[u32], kinds: &[Kind], more: &[Kind]) -> Result<(), MessageFa
 }
 
 /// The verb of a message, which its first word names.
+#[tactic(auto, unfolding(crate::specs::Reading::verb_named))]
 pub fn verb_of(message: &[u32]) -> Option<Verb>
     ensures { result ≡ verb_named message.now }
 {
-    let [word, ..] = message else {
-        return None;
-    };
-    Verb::of(*word)
+    let word = message.first()?;
+    Verb::try_from(*word).ok()
 }
 
 /// The call that a message makes, with no word copied; or the first word that does not fit.
+#[tactic(auto, unfolding(crate::specs::Reading::reading))]
 pub fn read(message: &[u32]) -> Result<Call<'_>, MessageFault>
     ensures answer { told result ≡ reading message.now }
     ensures back { IfOk result (λ c. words_of (said c) ≡ message.now) }
 {
-    let Some(verb) = verb_of(message) else {
-        return Err(MessageFault::Misfit { place: 0 });
-    };
+    let verb = verb_of(message).ok_or(MessageFault::Misfit { place: 0 })?;
     check(message, verb.first(), verb.again())?;
     Ok(call_of(verb, message))
 }

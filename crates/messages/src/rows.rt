@@ -1,16 +1,17 @@
 //! The rows of an opening: who takes part, and with how much money.
 
 ghost use Rattle.std.specs.Prelude.{◌≡◌, map, slice_index_or};
-ghost use Rattle.messages.specs.Kinds.{figure_of};
 ghost use Rattle.messages.specs.Rows.{row_of, blank_row, participant_figure, paired, rows_of, listed_of};
 
-use crate::kinds::figure;
+use crate::kinds::{FIGURES, figure};
+use crate::lent::{Lent, Worded};
 use participants::roster::Roster;
 use participants::rows::Listed;
 
 /// A row of an `Open`: a participant and its free millions of fen.
-#[derive(Clone, Copy)]
+#[derive(Clone, Copy, PartialEq, Eq, Debug)]
 pub struct OpenRow {
+    // a number, and not a kind: a message with a wrong one is written again as it came
     pub kind: u32,
     pub carrier: u32,
     pub millions: u32,
@@ -36,69 +37,57 @@ impl OpenRow {
         if self.kind < 0x1000 && self.carrier < 0x1_0000 {
             self.kind * 0x1_0000 + self.carrier
         } else {
-            0x1000_0000
+            FIGURES
         }
     }
 }
 
-/// The rows of an `Open`, read where they lie.
-#[derive(Clone, Copy)]
-pub enum Rows<'a> {
-    /// The figures of the words that they came in, two by two; a word behind the last whole row is not read.
-    Words(&'a [u32]),
-    /// Rows of a caller without words.
-    Typed(&'a [OpenRow]),
-}
+impl From<OpenRow> for Listed {
+    ghost from_gives = { λ row l. l ≡ listed_of row };
 
-/// The row of the words at twice its number, and behind; one of noughts past the last whole row.
-fn pair_at(words: &[u32], row: usize) -> OpenRow
-    ensures { result ≡ slice_index_or (paired (map figure_of words.now)) row blank_row }
-{
-    if row < words.len() / 2 {
-        OpenRow::of(figure(words[2 * row]), figure(words[2 * row + 1]))
-    } else {
-        OpenRow::of(0, 0)
+    fn from(row: OpenRow) -> Listed {
+        Listed {
+            kind: row.kind,
+            carrier: row.carrier,
+        }
     }
 }
 
-/// The row at a place; one of noughts past the end.
-fn row_at(rows: &[OpenRow], row: usize) -> OpenRow
-    ensures { result ≡ slice_index_or rows.now row blank_row }
-{
-    if row < rows.len() {
-        rows[row]
-    } else {
-        OpenRow::of(0, 0)
+/// The rows of an `Open`.
+pub type Rows<'a> = Lent<'a, OpenRow>;
+
+/// Two words are a row; a word behind the last whole row is not read.
+impl Worded for OpenRow {
+    ghost read = { paired };
+
+    fn count(words: &[u32]) -> usize {
+        words.len() / 2
+    }
+
+    fn pick(words: &[u32], row: usize) -> Option<OpenRow> {
+        let (pairs, _) = words.as_chunks::<2>();
+        let [participant, millions] = pairs.get(row)?;
+        Some(OpenRow::of(figure(*participant), figure(*millions)))
     }
 }
 
-impl<'a> Rows<'a> {
+impl<'a> Lent<'a, OpenRow> {
     /// The row at a place; one of noughts past the end.
     pub fn at(&self, row: usize) -> OpenRow
         ensures { result ≡ slice_index_or (rows_of self.now) row blank_row }
     {
-        match *self {
-            Rows::Words(words) => pair_at(words, row),
-            Rows::Typed(rows) => row_at(rows, row),
-        }
+        self.get(row).unwrap_or(OpenRow::of(0, 0))
     }
 }
 
-impl<'a> Roster for Rows<'a> {
+impl<'a> Roster for Lent<'a, OpenRow> {
     ghost listed = { λ s. map listed_of (rows_of s) };
 
     fn rows(&self) -> usize {
-        match *self {
-            Rows::Words(words) => words.len() / 2,
-            Rows::Typed(rows) => rows.len(),
-        }
+        self.len()
     }
 
     fn participant(&self, row: usize) -> Listed {
-        let found = self.at(row);
-        Listed {
-            kind: found.kind,
-            carrier: found.carrier,
-        }
+        Listed::from(self.at(row))
     }
 }

@@ -1,12 +1,15 @@
 //! What a message can ask for, and the words that it then has.
 
-ghost use Rattle.std.specs.Prelude.{◌≡◌, ◌≤◌};
-ghost use Rattle.messages.specs.Verbs.{verb_number, verb_of, first, again, found, place_of};
+ghost use Rattle.std.specs.Prelude.{◌≡◌, ◌++◌, ◌==◌};
+ghost use Rattle.std.specs.List.{position};
+ghost use Rattle.std.specs.Result.{result_ok};
+ghost use Rattle.messages.specs.Kinds.{kind_number};
+ghost use Rattle.messages.specs.Verbs.{verb_number, verb_of, first, again, place_of};
 
 use crate::kinds::Kind;
 
 /// What a message asks for.
-#[derive(Clone, Copy)]
+#[derive(Clone, Copy, PartialEq, Eq, Debug)]
 pub enum Verb {
     /// A quoting seat names a reference price.
     Quote = 1,
@@ -32,45 +35,50 @@ pub enum Verb {
     OpenSilver = 11,
 }
 
-/// Where a kind first stands among these, the first of which has place `start`.
-fn find(kinds: &[Kind], kind: Kind, start: usize) -> Option<usize>
-    requires { start ≤ 16 }
-    ensures { result ≡ found kind start kinds.now }
-{
-    for (place, one) in kinds.iter().enumerate() {
-        if one.number() == kind.number() {
-            return Some(start + place);
+/// A word that names no verb.
+#[derive(Clone, Copy, PartialEq, Eq, Debug)]
+pub struct UnknownVerb;
+
+impl TryFrom<u32> for Verb {
+    type Error = UnknownVerb;
+
+    ghost try_from_gives = { λ w r. result_ok r ≡ verb_of w };
+
+    fn try_from(word: u32) -> Result<Verb, UnknownVerb> {
+        match word {
+            0x6000_0001 => Ok(Verb::Quote),
+            0x6000_0002 => Ok(Verb::Begin),
+            0x6000_0003 => Ok(Verb::Buy),
+            0x6000_0004 => Ok(Verb::Sell),
+            0x6000_0005 => Ok(Verb::Reduce),
+            0x6000_0006 => Ok(Verb::Close),
+            0x6000_0007 => Ok(Verb::Suspend),
+            0x6000_0008 => Ok(Verb::Reissue),
+            0x6000_0009 => Ok(Verb::Announce),
+            0x6000_000a => Ok(Verb::OpenGold),
+            0x6000_000b => Ok(Verb::OpenSilver),
+            _ => Err(UnknownVerb),
         }
     }
-    None
+}
+
+/// Where a kind first stands among the kinds of a message.
+fn find(first: &[Kind], again: &[Kind], kind: Kind) -> Option<usize>
+    ensures { result ≡ position (λ k. kind_number k == kind_number kind) (first.now ++ again.now) }
+{
+    first
+        .iter()
+        .chain(again.iter())
+        .position(|one| *one == kind)
 }
 
 impl Verb {
     /// The number of the verb.
+    // by name: `u32::from` would not say what the number is
     pub fn number(self) -> u32
         ensures { result ≡ verb_number self }
     {
         self as u32
-    }
-
-    /// The verb that a word names.
-    pub fn of(word: u32) -> Option<Verb>
-        ensures { result ≡ verb_of word }
-    {
-        match word {
-            0x6000_0001 => Some(Verb::Quote),
-            0x6000_0002 => Some(Verb::Begin),
-            0x6000_0003 => Some(Verb::Buy),
-            0x6000_0004 => Some(Verb::Sell),
-            0x6000_0005 => Some(Verb::Reduce),
-            0x6000_0006 => Some(Verb::Close),
-            0x6000_0007 => Some(Verb::Suspend),
-            0x6000_0008 => Some(Verb::Reissue),
-            0x6000_0009 => Some(Verb::Announce),
-            0x6000_000a => Some(Verb::OpenGold),
-            0x6000_000b => Some(Verb::OpenSilver),
-            _ => None,
-        }
     }
 
     /// The kinds of the words that each message of this verb has, in their order.
@@ -108,13 +116,6 @@ impl Verb {
     pub fn place_of(self, kind: Kind) -> usize
         ensures { result ≡ place_of kind self }
     {
-        let first = self.first();
-        if let Some(place) = find(first, kind, 0) {
-            return place;
-        }
-        match find(self.again(), kind, first.len()) {
-            Some(place) => place,
-            None => 0,
-        }
+        find(self.first(), self.again(), kind).unwrap_or(0)
     }
 }

@@ -4,16 +4,16 @@ ghost use Rattle.std.specs.Prelude.{◌≡◌, ◌^◌, ◌<◌, ◌≤◌, true
 ghost use Rattle.messages.specs.Verbs.{verb_number, first, again};
 ghost use Rattle.messages.specs.Calls.{said};
 ghost use Rattle.messages.specs.Reading.{reading};
-ghost use Rattle.messages.specs.Writing.{opens, tail_figures, draft_figures, stamped, counted, words_of, writable, first_over, writing_figures, writing};
+ghost use Rattle.messages.specs.Writing.{tail_figures, draft_figures, stamped, counted, words_of, writable, first_over, writing_figures, writing};
 
-use crate::calls::{Call, Metal};
+use crate::calls::Call;
 use crate::faults::MessageFault;
-use crate::kinds::word;
+use crate::kinds::{FIGURES, word};
 use crate::prices::Prices;
+use crate::reader::MOST_WORDS;
 use crate::reading::coming;
 use crate::rows::Rows;
 use crate::verbs::Verb;
-use participants::roster::Roster;
 use session::lists::PriceList;
 
 /// What may follow the fixed fields of a message.
@@ -24,14 +24,14 @@ enum Tail<'a> {
 }
 
 impl<'a> Tail<'a> {
-    /// How many figures there are, in a type that holds twice any count.
+    /// How many figures there are; in 128 bits, since it is twice the rows of a caller, who may lend any number of them.
     fn len(self) -> u128
         ensures count { result ≡ length (tail_figures self.entry) }
         ensures small { result < 2 ^ 65 }
     {
         match self {
-            Tail::Prices(prices) => prices.count() as u128,
-            Tail::Rows(rows) => 2 * rows.rows() as u128,
+            Tail::Prices(prices) => prices.len() as u128,
+            Tail::Rows(rows) => 2 * rows.len() as u128,
         }
     }
 
@@ -76,11 +76,9 @@ impl<'f, 't> Draft<'f, 't> {
         if place == 0 {
             return self.verb.number();
         }
-        let behind = place - 1;
-        if behind < self.fields.len() {
-            self.fields[behind]
-        } else {
-            self.tail.at(behind - self.fields.len())
+        match self.fields.get(place - 1) {
+            Some(figure) => *figure,
+            None => self.tail.at(place - 1 - self.fields.len()),
         }
     }
 }
@@ -89,36 +87,31 @@ impl<'f, 't> Draft<'f, 't> {
 fn writable(place: usize, figure: u32) -> bool
     ensures { result ≡ writable place figure }
 {
-    figure < 0x1000_0000 && place < 16_384
+    figure < FIGURES && place < MOST_WORDS
 }
 
 /// The first place whose figure cannot be written there.
+// The length stands beside the draft, which counts in 128 bits and has no slice of its figures.
 fn first_over(draft: Draft, len: usize) -> Option<usize>
     requires { len ≡ length (draft_figures draft) }
     ensures { result ≡ first_over 0 (draft_figures draft.entry) }
 {
-    for place in 0..len {
-        if !writable(place, draft.at(place)) {
-            return Some(place);
-        }
-    }
-    None
+    (0..len).find(|place| !writable(*place, draft.at(*place)))
 }
 
-/// Writes the figures as words of the kinds that have to come.
-fn fill(draft: Draft, len: usize, out: &mut [u32])
+/// Writes the figures as words of the kinds that have to come, with just the room for them.
+fn fill(draft: Draft, out: &mut [u32])
     requires counted { counted (again draft.verb) (first draft.verb) (draft_figures draft) ≡ true }
-    requires whole { len ≡ length (draft_figures draft) }
-    requires room { len ≤ length out.old }
-    ensures { out.new ≡ stamped (again draft.entry.verb) (first draft.entry.verb) (draft_figures draft.entry) ++ drop len out.old }
+    requires room { length out.old ≡ length (draft_figures draft) }
+    ensures { out.new ≡ stamped (again draft.entry.verb) (first draft.entry.verb) (draft_figures draft.entry) }
 {
     let more = draft.verb.again();
     let mut left = draft.verb.first();
-    for place in 0..len {
+    for (place, word_out) in out.iter_mut().enumerate() {
         let [kind, rest @ ..] = coming(more, left) else {
             unreachable()
         };
-        out[place] = word(*kind, draft.at(place));
+        *word_out = word(*kind, draft.at(place));
         left = rest;
     }
 }
@@ -136,7 +129,7 @@ fn put(draft: Draft, out: &mut [u32]) -> Result<usize, MessageFault>
     if let Some(place) = first_over(draft, len) {
         return Err(MessageFault::Misfit { place });
     }
-    fill(draft, len, out);
+    fill(draft, &mut out[..len]);
     Ok(len)
 }
 
@@ -145,19 +138,9 @@ fn put_fields(verb: Verb, fields: &[u32], out: &mut [u32]) -> Result<usize, Mess
     requires { counted (again verb) (first verb) (verb_number verb ∷ fields.now) ≡ true }
     ensures { (result, out.new) ≡ writing_figures verb (verb_number verb ∷ fields.now) out.old }
 {
-    // Nothing follows: a tail of no prices, since an empty case of the tail would lend nothing and is not covered.
+    // Nothing follows: a tail of no prices. A third case for it would be one more in each question of a tail.
     let tail = Tail::Prices(Prices::Words(&[]));
     put(Draft { verb, fields, tail }, out)
-}
-
-/// The verb that opens a session.
-fn opens(metal: Metal) -> Verb
-    ensures { result ≡ opens metal }
-{
-    match metal {
-        Metal::Gold => Verb::OpenGold,
-        Metal::Silver => Verb::OpenSilver,
-    }
 }
 
 /// Writes a call as its verb asks.
@@ -198,7 +181,7 @@ fn put_call(call: &Call, out: &mut [u32]) -> Result<usize, MessageFault>
             let tail = Tail::Rows(rows);
             put(
                 Draft {
-                    verb: opens(metal),
+                    verb: Verb::from(metal),
                     fields: &[time, price.0],
                     tail,
                 },

@@ -4,7 +4,7 @@ use Rattle.std.proofs.lemmas.List.Sums.{sum_by_push}
 use Rattle.std.proofs.lemmas.Bool.Decides.{eqb_tells}
 use Rattle.rounds.specs.Gates.{Check}
 use Rattle.participants.specs.Rosters.{participant_at, row_fits, rows_fit, copied}
-use Rattle.participants.specs.Participants.{member_count, seat_count, is_fixing, is_seat}
+use Rattle.participants.specs.declared.kinds.Kind.{Kind}
 use Rattle.rounds.specs.Gates.{then_ok}
 use Rattle.rounds.specs.declared.faults.SessionFault.{SessionFault}
 use Rattle.participants.specs.declared.rows.Listed.{Listed}
@@ -29,8 +29,5 @@ copied_more ls k = map-range_with_len_more (participant_at ls) 0 k k (omega arit
 count-push : {X : Type 0} (p : X → Bool) (xs : List X) (x : X) → count_by p (xs ++ x ∷ []) ≡ count_by p xs + cond (p x) 1 0
 count-push p xs x = sum_by_push (λ y. cond (p y) 1 0) xs x
 
-pub members-more : (ls : List Listed) (k : ℕ) → member_count (copied ls (k + 1)) ≡ member_count (copied ls k) + cond (is_fixing (participant_at ls k).kind) 1 0
-members-more ls k = ap member_count (copied_more ls k) ∙ count-push (λ p. is_fixing p.kind) (copied ls k) (participant_at ls k)
-
-pub seats-more : (ls : List Listed) (k : ℕ) → seat_count (copied ls (k + 1)) ≡ seat_count (copied ls k) + cond (is_seat (participant_at ls k).kind) 1 0
-seats-more ls k = ap seat_count (copied_more ls k) ∙ count-push (λ p. is_seat p.kind) (copied ls k) (participant_at ls k)
+pub count-more : (p : Kind → Bool) (ls : List Listed) (k : ℕ) → count_by (λ r. p r.kind) (copied ls (k + 1)) ≡ count_by (λ r. p r.kind) (copied ls k) + cond (p (participant_at ls k).kind) 1 0
+count-more p ls k = ap (count_by (λ r. p r.kind)) (copied_more ls k) ∙ count-push (λ r. p r.kind) (copied ls k) (participant_at ls k)

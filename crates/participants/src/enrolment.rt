@@ -1,6 +1,6 @@
 //! How a list of participants becomes a table, and what the table answers.
 
-ghost use Rattle.std.specs.Prelude.{◌≡◌, ◌<◌, ◌≤◌, length, IfOk, vec_len, OnOk};
+ghost use Rattle.std.specs.Prelude.{◌≡◌, ◌<◌, ◌≤◌, length, IfOk, Ok, Err, MatchResult, vec_len, OnOk};
 ghost use Rattle.rounds.specs.Memory.{Refuses};
 ghost use Rattle.participants.specs.Participants.{member_count, seat_count};
 ghost use Rattle.participants.specs.Rosters.{rows_of, participant_of, participant_at, carried, row_fits, rows_fit, enrolled, counts_fit, roster_check, kind_at};
@@ -23,49 +23,42 @@ const NOBODY: Participant = Participant {
 
 /// The participant of a row as it came, if its kind is one and it has the right carrier: a customer a member, a member itself.
 fn participant_of<R: Roster>(roster: &R, row: usize) -> Option<Participant>
-    ensures { result ≡ participant_of (R.Roster.listed roster.now) row }
+    ensures { result ≡ participant_of (R.listed roster.now) row }
 {
     let listed = roster.participant(row);
-    let Some(kind) = Kind::of(listed.kind) else {
-        return None;
-    };
-    if is_carried(roster, row, listed, kind) {
-        Some(Participant {
-            kind,
-            carrier: listed.carrier,
-        })
-    } else {
-        None
-    }
+    let kind = Kind::try_from(listed.kind).ok()?;
+    is_carried(roster, row, listed, kind).then_some(Participant {
+        kind,
+        carrier: listed.carrier,
+    })
 }
 
 /// Whether a participant has the right carrier.
 fn is_carried<R: Roster>(roster: &R, row: usize, listed: Listed, kind: Kind) -> bool
-    ensures { result ≡ carried (R.Roster.listed roster.now) row listed kind }
+    ensures { result ≡ carried (R.listed roster.now) row listed kind }
 {
     match kind {
-        Kind::Customer => match Kind::of(roster.participant(listed.carrier as usize).kind) {
-            Some(Kind::Customer) | None => false,
-            Some(_) => true,
-        },
+        Kind::Customer => Kind::try_from(
+            roster.participant(listed.carrier as usize).kind,
+        ).is_ok_and(|carrier| carrier != Kind::Customer),
         _ => listed.carrier as usize == row,
     }
 }
 
 /// That nothing is wrong with a row.
 fn check_participant<R: Roster>(roster: &R, row: usize) -> Result<(), SessionFault>
-    ensures { result ≡ row_fits (R.Roster.listed roster.now) row }
+    ensures { result ≡ row_fits (R.listed roster.now) row }
 {
-    match participant_of(roster, row) {
-        Some(_) => Ok(()),
-        None => Err(SessionFault::Participant { row }),
-    }
+    participant_of(roster, row)
+        .map(|_| ())
+        .ok_or(SessionFault::Participant { row })
 }
 
 /// That nothing is wrong with any row.
 fn check_rows<R: Roster>(roster: &R) -> Result<(), SessionFault>
-    ensures { result ≡ rows_fit (R.Roster.listed roster.now) (length (R.Roster.listed roster.now)) }
+    ensures { result ≡ rows_fit (R.listed roster.now) (length (R.listed roster.now)) }
 {
+    // by number: the refusal names the row
     for row in 0..roster.rows() {
         check_participant(roster, row)?;
     }
@@ -74,75 +67,74 @@ fn check_rows<R: Roster>(roster: &R) -> Result<(), SessionFault>
 
 /// The participant of a row; where something is wrong with it, one that takes no part.
 fn participant_at<R: Roster>(roster: &R, row: usize) -> Participant
-    ensures { result ≡ participant_at (R.Roster.listed roster.now) row }
+    ensures { result ≡ participant_at (R.listed roster.now) row }
 {
     participant_of(roster, row).unwrap_or(NOBODY)
 }
 
-/// How many rows are Fixing Members.
-fn count_members<R: Roster>(roster: &R) -> u32
-    requires { length (R.Roster.listed roster.now) ≤ 256 }
-    ensures { result ≡ member_count (enrolled (R.Roster.listed roster.now)) }
+/// How many rows there are of the two kinds that are counted.
+#[derive(Clone, Copy)]
+struct HeadCount {
+    members: u32,
+    seats: u32,
+}
+
+/// How many rows are Fixing Members, and how many are quoting seats, in one pass.
+fn head_count<R: Roster>(roster: &R) -> HeadCount
+    requires few { length (R.listed roster.now) ≤ 256 }
+    ensures members { result.members ≡ member_count (enrolled (R.listed roster.now)) }
+    ensures seats { result.seats ≡ seat_count (enrolled (R.listed roster.now)) }
 {
     let mut members = 0;
-    for row in 0..roster.rows() {
-        members += participant_at(roster, row).kind.is_fixing() as u32;
-    }
-    members
-}
-
-/// How many rows are quoting seats.
-fn count_seats<R: Roster>(roster: &R) -> u32
-    requires { length (R.Roster.listed roster.now) ≤ 256 }
-    ensures { result ≡ seat_count (enrolled (R.Roster.listed roster.now)) }
-{
     let mut seats = 0;
+    // by number, and a loop for two sums: whether a row is well carried depends on another row
     for row in 0..roster.rows() {
-        seats += participant_at(roster, row).kind.is_seat() as u32;
+        let kind = participant_at(roster, row).kind;
+        members += kind.is_fixing() as u32;
+        seats += kind.is_seat() as u32;
     }
-    seats
+    HeadCount { members, seats }
 }
 
-/// That there are 1 to 256 rows, of which 1 to 32 are Fixing Members.
-fn check_counts<R: Roster>(roster: &R) -> Result<(), SessionFault>
-    ensures answer { result ≡ counts_fit (R.Roster.listed roster.now) }
-    ensures rows { OnOk result (length (R.Roster.listed roster.now) ≤ 256) }
-    ensures members { OnOk result ((1 ≤ member_count (enrolled (R.Roster.listed roster.now))) × (member_count (enrolled (R.Roster.listed roster.now)) ≤ 32)) }
+/// That there are 1 to 256 rows, of which 1 to 32 are Fixing Members; and how many there are.
+fn check_counts<R: Roster>(roster: &R) -> Result<HeadCount, SessionFault>
+    ensures answer { MatchResult result (λ _. counts_fit (R.listed roster.now) ≡ Ok tt) (λ f. counts_fit (R.listed roster.now) ≡ Err f) }
+    ensures rows { OnOk result (length (R.listed roster.now) ≤ 256) }
+    ensures members { IfOk result (λ h. (h.members ≡ member_count (enrolled (R.listed roster.now))) × (1 ≤ h.members) × (h.members ≤ 32)) }
+    ensures seats { IfOk result (λ h. h.seats ≡ seat_count (enrolled (R.listed roster.now))) }
 {
-    if roster.rows() < 1 || roster.rows() > MOST_ROWS {
+    if !(1..=MOST_ROWS).contains(&roster.rows()) {
         return Err(SessionFault::Participants);
     }
-    let members = count_members(roster);
-    if members < 1 || members > MOST_MEMBERS {
+    let counts = head_count(roster);
+    if !(1..=MOST_MEMBERS).contains(&counts.members) {
         return Err(SessionFault::Participants);
     }
-    Ok(())
+    Ok(counts)
 }
 
 /// The participants of a roster, in memory of their own.
 fn copy_rows<R: Roster>(heap: Global, roster: &R) -> Result<Vec<Participant>, AllocError>
-    ensures items { IfOk result (λ v. v.items ≡ enrolled (R.Roster.listed roster.now)) }
-    ensures len { IfOk result (λ v. vec_len v ≡ length (R.Roster.listed roster.now)) }
+    ensures items { IfOk result (λ v. v.items ≡ enrolled (R.listed roster.now)) }
+    ensures len { IfOk result (λ v. vec_len v ≡ length (R.listed roster.now)) }
 {
-    let mut rows = Vec::with_capacity(heap, roster.rows())?;
-    for row in 0..roster.rows() {
-        rows.push(participant_at(roster, row))?;
-    }
-    Ok(rows)
+    (0..roster.rows())
+        .map(|row| participant_at(roster, row))
+        .collect(heap)
 }
 
 impl Participants {
     /// The table of a roster, once nothing is wrong with it.
     pub fn of<R: Roster>(heap: Global, roster: &R) -> Result<Participants, SessionFault>
-        ensures rows { IfOk result (λ p. rows_of p ≡ enrolled (R.Roster.listed roster.now)) }
-        ensures fault { Refuses (roster_check (R.Roster.listed roster.now)) result }
+        ensures rows { IfOk result (λ p. rows_of p ≡ enrolled (R.listed roster.now)) }
+        ensures fault { Refuses (roster_check (R.listed roster.now)) result }
     {
         check_rows(roster)?;
-        check_counts(roster)?;
+        let counts = check_counts(roster)?;
         Ok(Participants {
             rows: copy_rows(heap, roster)?,
-            members: count_members(roster),
-            seats: count_seats(roster),
+            members: counts.members,
+            seats: counts.seats,
         })
     }
 
@@ -183,9 +175,9 @@ impl Participants {
         ensures answer { result ≡ kind_at (rows_of self.now) row }
         ensures within { OnOk result (row < length (rows_of self.now)) }
     {
-        match self.rows.get(row as usize) {
-            Some(participant) => Ok(participant.kind),
-            None => Err(SessionFault::Row),
-        }
+        self.rows
+            .get(row as usize)
+            .map(|participant| participant.kind)
+            .ok_or(SessionFault::Row)
     }
 }

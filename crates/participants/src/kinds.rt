@@ -1,6 +1,7 @@
 //! What a participant is, and which kinds quote and share.
 
 ghost use Rattle.std.specs.Prelude.{◌≡◌};
+ghost use Rattle.std.specs.Result.{result_ok};
 ghost use Rattle.participants.specs.Participants.{kind_of, is_fixing, is_seat};
 
 /// What a participant is.
@@ -16,37 +17,38 @@ pub enum Kind {
     Customer = 4,
 }
 
-impl Kind {
-    /// The kind that a number names.
-    pub fn of(number: u32) -> Option<Kind>
-        ensures { result ≡ kind_of number }
-    {
+/// A number that names no kind.
+#[derive(Clone, Copy, PartialEq, Eq, Debug)]
+pub struct UnknownKind;
+
+impl TryFrom<u32> for Kind {
+    type Error = UnknownKind;
+
+    ghost try_from_gives = { λ number r. result_ok r ≡ kind_of number };
+
+    fn try_from(number: u32) -> Result<Kind, UnknownKind> {
         match number {
-            1 => Some(Kind::FixingMember),
-            2 => Some(Kind::ReferencePriceMember),
-            3 => Some(Kind::OtherMember),
-            4 => Some(Kind::Customer),
-            _ => None,
+            1 => Ok(Kind::FixingMember),
+            2 => Ok(Kind::ReferencePriceMember),
+            3 => Ok(Kind::OtherMember),
+            4 => Ok(Kind::Customer),
+            _ => Err(UnknownKind),
         }
     }
+}
 
+impl Kind {
     /// Whether it is a Fixing Member.
     pub fn is_fixing(self) -> bool
         ensures { result ≡ is_fixing self }
     {
-        match self {
-            Kind::FixingMember => true,
-            _ => false,
-        }
+        matches!(self, Kind::FixingMember)
     }
 
     /// Whether it is a quoting seat.
     pub fn is_seat(self) -> bool
         ensures { result ≡ is_seat self }
     {
-        match self {
-            Kind::FixingMember | Kind::ReferencePriceMember => true,
-            _ => false,
-        }
+        matches!(self, Kind::FixingMember | Kind::ReferencePriceMember)
     }
 }

@@ -58,6 +58,7 @@ fn tally(quotes: &[Option<Ticks>]) -> Tally
         highest: 0,
         lowest: u32::MAX,
     };
+    // a loop and no fold: what a note asks of the tally holds by how many came before it
     for quote in quotes {
         tally = tally.note(*quote);
     }

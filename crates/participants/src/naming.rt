@@ -28,8 +28,8 @@ impl Quotes {
         ensures kept { OnErr result (prices_of self.new ≡ prices_of self.old) }
     {
         check_price(price, 0)?;
-        if (row as usize) < self.prices.len() {
-            self.prices[row as usize] = Some(price);
+        if let Some(quote) = self.prices.get_mut(row as usize) {
+            *quote = Some(price);
         }
         Ok(())
     }

@@ -12,6 +12,7 @@ pub struct Participant {
 /// A participant as it came, before anything is checked.
 #[derive(Clone, Copy, PartialEq, Eq, Debug)]
 pub struct Listed {
+    // a number until it is checked: a caller may name a kind that there is not
     pub kind: u32,
     pub carrier: u32,
 }

@@ -7,6 +7,11 @@ use Rattle.rounds.specs.declared.periods.Period.{Period}
 abbrev pub Check : Type 0
 Check = Result (Unit {0}) SessionFault
 
+-- what a check says, whatever it hands on
+abbrev pub said : {X : Type 0} → Result X SessionFault → Check
+said (Ok x) = Ok tt
+said (Err e) = Err e
+
 -- what comes after a check that passed; the refusal of one that did not
 abbrev pub then_ok : {X : Type 0} → Check → Result X SessionFault → Result X SessionFault
 then_ok (Ok u) r = r

@@ -74,6 +74,7 @@ impl From<AllocError> for SessionFault {
 
 impl SessionFault {
     /// The number of the refusal.
+    // by name: `u32::from` would not say what the number is, and variants that carry a value have none of their own
     pub fn number(self) -> u32
         ensures { result ≡ number_of self }
     {

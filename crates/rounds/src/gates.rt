@@ -1,45 +1,31 @@
 //! The checks that several calls share, each with the refusal it gives.
 
-ghost use Rattle.std.specs.Prelude.{◌≡◌, ◌<◌, ◌≤◌, true, OnOk};
-ghost use Rattle.rounds.specs.Gates.{time_fits, admitted, in_time, ended, price_fits, lots_fit};
+ghost use Rattle.std.specs.Prelude.{◌≡◌, ◌≤◌, true, IfOk, OnOk};
+ghost use Rattle.rounds.specs.Gates.{said, admitted, in_time, ended, price_fits, lots_fit};
 
 use crate::faults::SessionFault;
 use crate::periods::Period;
+use crate::times::TimeOfDay;
 use measures::{Lots, Ticks};
-
-/// The last millisecond of a day.
-const LAST_TIME: u32 = 86_399_999;
 
 /// The highest price, in ticks; the lowest is 1.
 pub const HIGHEST_PRICE: u32 = 10_000_000;
 
-/// That a time is one of the day.
-pub fn check_time(time: u32) -> Result<(), SessionFault>
-    ensures answer { result ≡ time_fits time }
-    ensures within { OnOk result (time ≤ 86399999) }
-{
-    if time > LAST_TIME {
-        Err(SessionFault::Time)
-    } else {
-        Ok(())
-    }
-}
-
 impl Period {
     /// That the time is one of the day, that the call belongs to the stage, and that no later call was accepted.
-    pub fn admit(&self, belongs: bool, time: u32) -> Result<(), SessionFault>
-        ensures answer { result ≡ admitted belongs self.now time }
+    pub fn admit(&self, belongs: bool, time: u32) -> Result<TimeOfDay, SessionFault>
+        ensures answer { said result ≡ admitted belongs self.now time }
         ensures belongs { OnOk result (belongs ≡ true) }
-        ensures hour { OnOk result (time ≤ 86399999) }
+        ensures same { IfOk result (λ t. t.ms ≡ time) }
     {
-        check_time(time)?;
+        let time = TimeOfDay::try_from(time)?;
         if !belongs {
             return Err(SessionFault::WrongStage);
         }
-        if time < self.clock {
+        if time.ms < self.clock {
             return Err(SessionFault::Early);
         }
-        Ok(())
+        Ok(time)
     }
 }
 
@@ -70,11 +56,10 @@ pub fn check_price(price: Ticks, at: usize) -> Result<(), SessionFault>
     ensures answer { result ≡ price_fits at price.0 }
     ensures within { OnOk result ((1 ≤ price.0) × (price.0 ≤ 10000000)) }
 {
-    if price.0 < 1 || price.0 > HIGHEST_PRICE {
-        Err(SessionFault::Price { at })
-    } else {
-        Ok(())
+    if !(1..=HIGHEST_PRICE).contains(&price.0) {
+        return Err(SessionFault::Price { at });
     }
+    Ok(())
 }
 
 /// That lots are at least one, and at most the largest tender.
@@ -82,7 +67,7 @@ pub fn check_lots(lots: Lots, largest: Lots) -> Result<(), SessionFault>
     ensures answer { result ≡ lots_fit largest.0 lots.0 }
     ensures within { OnOk result ((1 ≤ lots.0) × (lots.0 ≤ largest.0)) }
 {
-    if lots.0 < 1 || lots.0 > largest.0 {
+    if lots.0 < 1 || lots > largest {
         Err(SessionFault::Amount)
     } else {
         Ok(())

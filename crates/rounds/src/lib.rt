@@ -10,3 +10,4 @@ pub mod moves;
 pub mod periods;
 pub mod sides;
 pub mod stages;
+pub mod times;

@@ -23,6 +23,7 @@ pub struct Excess {
 pub struct Period {
     pub stage: Stage,
     /// 1 to 64, and 0 while quoting.
+    // here and below 0 and no Option: it is what an answer says while quoting
     pub round: u32,
     /// The Offered Price: 0 while quoting.
     pub price: Ticks,

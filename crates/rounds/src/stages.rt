@@ -24,6 +24,7 @@ pub enum Stage {
 
 impl Stage {
     /// The number of the stage.
+    // by name: `u32::from` would not say what the number is
     pub fn number(self) -> u32
         ensures { result ≡ number_of self }
     {

@@ -1,5 +1,5 @@
 -- The Initial Price.
-use Rattle.std.specs.Prelude.{ℕ, ◌+◌, cond, List, [], ◌∷◌, length, Some, None, Ok, Err, sum_by, Option, ◌==◌, nat_lt}
+use Rattle.std.specs.Prelude.{ℕ, ◌+◌, ◌<◌, ◌≤◌, cond, List, [], ◌∷◌, length, Some, None, Ok, Err, sum_by, Option, ◌==◌, nat_lt, slice_index}
 use Rattle.measures.specs.declared.Ticks.{Ticks}
 use Rattle.rounds.specs.Gates.{Check, then_ok, price_fits}
 use Rattle.rounds.specs.declared.faults.SessionFault.TheVariants.{TooManyPrices}
@@ -13,6 +13,10 @@ count_fits ps = cond (nat_lt 10000 (length ps)) (Err TooManyPrices) (Ok tt)
 abbrev pub prices_fit : ℕ → List ℕ → Check
 prices_fit i [] = Ok tt
 prices_fit i (p ∷ ps) = then_ok (price_fits i p) (prices_fit (i + 1) ps)
+
+-- each of some numbers is a price
+abbrev pub Prices : List ℕ → Type 0
+Prices ps = (k : ℕ) → k < length ps → (1 ≤ slice_index ps k) × (slice_index ps k ≤ 10000000)
 
 -- executed prices count once each
 abbrev pub executed_mean : List ℕ → ℕ

@@ -1,12 +1,25 @@
 -- The periods of a session: when each ends, and what comes after it.
-use Rattle.std.specs.Prelude.{ℕ, ◌+◌, cond, Some, None, nat_lt}
+use Rattle.std.specs.Prelude.{◌≡◌, ℕ, ◌+◌, ◌≤◌, true, cond, ◌||◌, Some, None, nat_le, nat_lt}
 use Rattle.measures.specs.declared.Ticks.{Ticks}
+use Rattle.rounds.specs.Moves.{of_ticks}
+use Rattle.rounds.specs.Stages.{is_quoting}
 use Rattle.rounds.specs.declared.periods.Move.{Move}
 use Rattle.rounds.specs.declared.periods.Period.{Period}
 use Rattle.rounds.specs.declared.sides.Side.{Side}
 use Rattle.rounds.specs.declared.sides.Side.TheVariants.{Buy}
 use Rattle.rounds.specs.declared.stages.Stage.{Stage}
 use Rattle.rounds.specs.declared.stages.Stage.TheVariants.{Quoting, Market, Supplementary, Announced}
+
+-- what the period of a session keeps to: the benchmark before it is a price and, once quoting is over, so is the Offered Price;
+-- a round is at most the sixty-fourth, times are of one day, and a last move was of a tick or more
+abbrev pub Lawful : Period → Type 0
+Lawful p =
+    (p.price.0 ≤ 10000000)
+    × ((is_quoting p.stage || nat_le 1 p.price.0) ≡ true)
+    × (1 ≤ p.previous.0) × (p.previous.0 ≤ 10000000)
+    × (p.round ≤ 64)
+    × (p.clock ≤ 86399999) × (p.ends ≤ 86700000)
+    × (of_ticks p.last ≡ true)
 
 -- quoting lasts 300,000 ms when opened before noon, else 240,000
 abbrev pub quoting_ends : ℕ → ℕ

@@ -2,7 +2,7 @@
 use Rattle.std.specs.Prelude.{ℕ, cond, Some, None, Ok, Err, Option, Result, ◌==◌, nat_lt, slice_index_or, slice_set}
 use Rattle.measures.specs.Amounts.{amount}
 use Rattle.books.specs.Accounts.{Accounts, releasing, released_at}
-use Rattle.rounds.specs.Gates.{then_ok, given, admitted, in_time, lots_fit}
+use Rattle.rounds.specs.Gates.{Check, then_ok, given, admitted, in_time, lots_fit}
 use Rattle.rounds.specs.Stages.{is_market}
 use Rattle.rounds.specs.declared.answers.Standing.{Standing}
 use Rattle.rounds.specs.declared.faults.SessionFault.{SessionFault}
@@ -29,14 +29,22 @@ module _ {P : Type 0} where
   abbrev pub own_line : State P → ℕ → ℕ → ℕ → Result Line SessionFault
   own_line s row line lots = line_off s row lots (line_at s.lines line)
 
+  -- whether lots can be taken off lines
+  abbrev pub may_reduce : State P → ℕ → Check
+  may_reduce s time =
+      then_ok (admitted (is_market s.period.stage) s.period time)
+      (in_time s.period.ends time)
+
+  -- the line that a row's lots come off, while they can
+  abbrev pub row_line : ℕ → State P → ℕ → ℕ → ℕ → Result Line SessionFault
+  row_line largest s row line lots =
+      given (kind_at s.rows row) (λ _.
+      then_ok (lots_fit largest lots)
+      (own_line s row line lots))
+
   -- the line that the lots come off, or the first of the session's own reasons to refuse
   abbrev pub reducible : ℕ → State P → ℕ → ℕ → ℕ → ℕ → Result Line SessionFault
-  reducible largest s time row line lots =
-      then_ok (admitted (is_market s.period.stage) s.period time)
-      (then_ok (in_time s.period.ends time)
-      (given (kind_at s.rows row) (λ _.
-      then_ok (lots_fit largest lots)
-      (own_line s row line lots))))
+  reducible largest s time row line lots = then_ok (may_reduce s time) (row_line largest s row line lots)
 
   abbrev pub reduced_state : State P → ℕ → ℕ → ℕ → State P
   reduced_state s time line lots = with_period (with_lines s (slice_set s.lines line (reduced (slice_index_or s.lines line no_line) lots))) (clocked s.period time)

@@ -1,5 +1,5 @@
 -- A session as its rules see it, and what a call does to it.
-use Rattle.std.specs.Prelude.{ℕ, List, Ok, Err, Option, Result}
+use Rattle.std.specs.Prelude.{◌≡◌, ℕ, List, Ok, Err, Option, Result}
 use Rattle.measures.specs.declared.Ticks.{Ticks}
 use Rattle.books.specs.Accounts.{Accounts}
 use Rattle.books.specs.declared.faults.BookFault.{BookFault}
@@ -27,6 +27,10 @@ pub record State (P : Type 0) : Type 0 where
 
 abbrev pub view : {C P : Type 0} → Session C P → State P
 view s = record { rows = rows_of s.participants; quotes = prices_of s.quotes; lines = lines_of s.table; limit = limit_of s.table; fills = s.fills; period = s.period; policy = s.policy }
+
+-- what a refusal leaves: the session and, by what the book means, all accounts are as before
+abbrev pub Unchanged : {C P B : Type 0} → (B → Accounts) → Session C P → Session C P → B → B → Type 0
+Unchanged means before after book_before book_after = (view after ≡ view before) × (means book_after ≡ means book_before)
 
 -- what a call does: its answer, and the session and the accounts afterwards
 pub record Outcome (P T : Type 0) : Type 0 where

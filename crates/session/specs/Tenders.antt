@@ -22,40 +22,46 @@ use Rattle.session.specs.State.{State, Outcome, after, of_book, with_period, wit
 abbrev pub fixing_may : Kind → Check
 fixing_may kind = cond (is_fixing kind) (Ok tt) (Err WrongKind)
 
+-- in the market period a tender is taken whole
+abbrev pub market_lots : ℕ → ℕ → Result Lots SessionFault
+market_lots largest lots = then_ok (lots_fit largest lots) (Ok (record { 0 = lots }))
+
 module _ {P : Type 0} where
-  -- who tenders, while tenders are taken
-  abbrev pub tenderer : State P → ℕ → ℕ → Result Kind SessionFault
-  tenderer s time row =
+  -- whether tenders are taken
+  abbrev pub may_tender : State P → ℕ → Check
+  may_tender s time =
       then_ok (admitted (is_market s.period.stage || is_supplementary s.period.stage) s.period time)
-      (then_ok (in_time s.period.ends time)
-      (kind_at s.rows row))
+      (in_time s.period.ends time)
 
   -- a line table is used up when the accepted tenders equal its limit
-  abbrev pub room_for : State P → ℕ → Result Lots SessionFault
-  room_for s n = cond (nat_le s.limit (length s.lines)) (Err LinesUsedUp) (Ok (record { 0 = n }))
-
-  -- in the market period a tender is taken whole
-  abbrev pub market_taken : ℕ → State P → ℕ → Result Lots SessionFault
-  market_taken largest s lots = then_ok (lots_fit largest lots) (room_for s lots)
+  abbrev pub room_check : State P → Check
+  room_check s = cond (nat_le s.limit (length s.lines)) (Err LinesUsedUp) (Ok tt)
 
   -- in the supplementary period it stands against the excess, and is cut to what remains
-  abbrev pub remains_of : State P → ℕ → Result Lots SessionFault
-  remains_of s lots = cond (imbalance s.lines == 0) (Err NothingRemains) (room_for s (min lots (imbalance s.lines)))
+  abbrev pub remaining_lots : State P → ℕ → Result Lots SessionFault
+  remaining_lots s lots = cond (imbalance s.lines == 0) (Err NothingRemains) (Ok (record { 0 = min lots (imbalance s.lines) }))
 
-  abbrev pub against : State P → Side → ℕ → Result Lots SessionFault
-  against s side lots = cond (same_side side (other s.period.excess.side)) (remains_of s lots) (Err WrongSide)
+  abbrev pub excess_lots : State P → Side → ℕ → Result Lots SessionFault
+  excess_lots s side lots = cond (same_side side (other s.period.excess.side)) (remaining_lots s lots) (Err WrongSide)
 
-  abbrev pub supplementary_taken : ℕ → State P → Kind → Side → ℕ → Result Lots SessionFault
-  supplementary_taken largest s kind side lots =
+  abbrev pub supplementary_lots : ℕ → State P → Kind → Side → ℕ → Result Lots SessionFault
+  supplementary_lots largest s kind side lots =
       then_ok (fixing_may kind)
       (then_ok (lots_fit largest lots)
-      (against s side lots))
+      (excess_lots s side lots))
 
-  -- the lots taken, or the first of the session's own reasons to refuse
+  -- the lots taken of a row's tender, while tenders are taken
+  abbrev pub row_lots : ℕ → State P → ℕ → Side → ℕ → Result Lots SessionFault
+  row_lots largest s row side lots =
+      given (kind_at s.rows row) (λ kind.
+      cond (is_market s.period.stage) (market_lots largest lots) (supplementary_lots largest s kind side lots))
+
+  -- the lots taken, or the first of the session's own reasons to refuse: want of room for a line is the last
   abbrev pub lots_taken : ℕ → State P → ℕ → ℕ → Side → ℕ → Result Lots SessionFault
   lots_taken largest s time row side lots =
-      given (tenderer s time row) (λ kind.
-      cond (is_market s.period.stage) (market_taken largest s lots) (supplementary_taken largest s kind side lots))
+      then_ok (may_tender s time)
+      (given (row_lots largest s row side lots) (λ n.
+      then_ok (room_check s) (Ok n)))
 
   -- the line of an accepted tender
   abbrev pub line_of : State P → ℕ → Side → ℕ → Line

@@ -1,13 +1,13 @@
 //! The end of a period: the price is fixed, supplementary tenders are asked for, the price moves, or the session halts.
 
-ghost use Rattle.std.specs.Prelude.{◌≡◌, ◌<◌, ◌≤◌, true, IfOk, Ok, OnErr, OnOk};
+ghost use Rattle.std.specs.Prelude.{◌≡◌, ◌<◌, ◌≤◌, true, IfOk, Ok, OnErr};
 ghost use Rattle.books.specs.Accounts.{Accounts};
 ghost use Rattle.rounds.specs.Moves.{moved_price, up_for, Beyond};
 ghost use Rattle.rounds.specs.Stages.{is_market, is_supplementary};
 ghost use Rattle.lines.specs.Lines.{imbalance, excess};
-ghost use Rattle.session.specs.Closing.{close_check, close_move, market_outcome, move_outcome, supplementary_outcome, close_outcome};
+ghost use Rattle.session.specs.Closing.{close_move, market_outcome, move_outcome, supplementary_outcome, close_outcome};
 ghost use Rattle.session.specs.Periods.{entered};
-ghost use Rattle.session.specs.State.{view, came, with_period, standing_at};
+ghost use Rattle.session.specs.State.{view, came, Unchanged, with_period, standing_at};
 
 use crate::session::Session;
 use books::book::MarginBook;
@@ -17,32 +17,23 @@ use rounds::faults::SessionFault;
 use rounds::gates::check_ended;
 use rounds::periods::{Excess, Move, Period};
 use rounds::stages::Stage;
+use rounds::times::TimeOfDay;
 use sharing::policy::SharingPolicy;
 
 /// No round comes after this one.
 pub(crate) const LAST_ROUND: u32 = 64;
 
 impl<C, P> Session<C, P> {
-    fn check_close(&self, time: u32) -> Result<(), SessionFault>
-        ensures answer { result ≡ close_check (view self.now) time }
-        ensures hour { OnOk result (time ≤ 86399999) }
-        ensures offered { OnOk result (1 ≤ self.now.period.price.0) }
-    {
-        let open = self.period.stage == Stage::Market || self.period.stage == Stage::Supplementary;
-        self.period.admit(open, time)?;
-        check_ended(self.period.ends, time)
-    }
-
     /// Enters another stage of the same round, at the same price.
-    pub(crate) fn turn_to(&mut self, stage: Stage, time: u32) -> Standing
-        requires hour { time ≤ 86399999 }
-        requires offered { 1 ≤ self.old.period.price.0 }
-        ensures answer { result ≡ standing_at (entered self.old.period stage time) }
-        ensures state { view self.new ≡ with_period (view self.old) (entered self.old.period stage time) }
+    // that a price is offered is asked where it is needed: it follows from the stages that a call belongs to
+    pub(crate) fn turn_to(&mut self, stage: Stage, time: TimeOfDay) -> Standing
+        requires { 1 ≤ self.old.period.price.0 }
+        ensures answer { result ≡ standing_at (entered self.old.period stage time.ms) }
+        ensures state { view self.new ≡ with_period (view self.old) (entered self.old.period stage time.ms) }
     {
         self.period = Period {
             stage,
-            clock: time,
+            clock: time.ms,
             ..self.period
         };
         self.standing()
@@ -52,25 +43,24 @@ impl<C, P> Session<C, P> {
 impl<C: FixingContract, P: SharingPolicy> Session<C, P> {
     /// The move for the imbalance that remains: of a tick or more where that is above the threshold.
     fn next_move(&self) -> Move
-        ensures value { result ≡ close_move C.FixingContract.step (view self.now) }
-        ensures some { C.FixingContract.threshold < imbalance (view self.now).lines → 1 ≤ result.size.0 }
+        ensures value { result ≡ close_move C.step (view self.now) }
+        ensures some { C.THRESHOLD.0 < imbalance (view self.now).lines → 1 ≤ result.size.0 }
     {
         let step = C::step_at(self.table.imbalance());
         Move::after(self.period.last, self.table.excess().moves_up(), step)
     }
 
-    fn close_market(&mut self, time: u32) -> Standing
-        requires hour { time ≤ 86399999 }
-        requires offered { 1 ≤ self.old.period.price.0 }
-        ensures { (m : Accounts) → came (Ok result) (view self.new) m ≡ market_outcome P.SharingPolicy.share P.SharingPolicy.told (view self.old) m time }
+    fn close_market(&mut self, time: TimeOfDay) -> Standing
+        requires { 1 ≤ self.old.period.price.0 }
+        ensures { (m : Accounts) → came (Ok result) (view self.new) m ≡ market_outcome P.share P.told (view self.old) m time.ms }
     {
         if self.table.imbalance().0 == 0 {
             return self.fix(time);
         }
         self.period = Period {
             stage: Stage::Supplementary,
-            clock: time,
-            ends: time + 10_000,
+            clock: time.ms,
+            ends: time.ms + 10_000,
             excess: Excess {
                 side: self.table.excess(),
                 lots: self.table.imbalance(),
@@ -81,16 +71,16 @@ impl<C: FixingContract, P: SharingPolicy> Session<C, P> {
     }
 
     /// Moves the price and strikes the side of the excess, or halts.
+    // `moved` is said at each step of the way to `close`, which says it to callers
     fn move_price<B: MarginBook>(
         &mut self,
         book: &mut B,
-        time: u32,
+        time: TimeOfDay,
     ) -> Result<Standing, SessionFault>
-        requires hour { time ≤ 86399999 }
         requires offered { 1 ≤ self.old.period.price.0 }
-        requires beyond { C.FixingContract.threshold < imbalance (view self.old).lines }
-        ensures outcome { came result (view self.new) (B.MarginBook.means book.new) ≡ move_outcome C.QuotedContract.margin (view self.old) (B.MarginBook.means book.old) time (close_move C.FixingContract.step (view self.old)) (moved_price self.old.period.price.0 (close_move C.FixingContract.step (view self.old))) }
-        ensures kept { OnErr result ((view self.new ≡ view self.old) × (B.MarginBook.means book.new ≡ B.MarginBook.means book.old)) }
+        requires beyond { C.THRESHOLD.0 < imbalance (view self.old).lines }
+        ensures outcome { came result (view self.new) (B.means book.new) ≡ move_outcome C.MARGIN.0 (view self.old) (B.means book.old) time.ms (close_move C.step (view self.old)) (moved_price self.old.period.price.0 (close_move C.step (view self.old))) }
+        ensures kept { OnErr result (Unchanged B.means self.old self.new book.old book.new) }
         ensures moved { IfOk result (λ s. is_market s.stage ≡ true → Beyond (up_for (excess (view self.old).lines)) self.old.period.price.0 s.price.0) }
     {
         let by = self.next_move();
@@ -100,8 +90,8 @@ impl<C: FixingContract, P: SharingPolicy> Session<C, P> {
                     stage: Stage::Market,
                     round: self.period.round + 1,
                     price,
-                    clock: time,
-                    ends: time + 30_000,
+                    clock: time.ms,
+                    ends: time.ms + 30_000,
                     last: Some(by),
                     ..self.period
                 };
@@ -114,15 +104,14 @@ impl<C: FixingContract, P: SharingPolicy> Session<C, P> {
     fn close_supplementary<B: MarginBook>(
         &mut self,
         book: &mut B,
-        time: u32,
+        time: TimeOfDay,
     ) -> Result<Standing, SessionFault>
-        requires hour { time ≤ 86399999 }
-        requires offered { 1 ≤ self.old.period.price.0 }
-        ensures outcome { came result (view self.new) (B.MarginBook.means book.new) ≡ supplementary_outcome C.QuotedContract.margin C.FixingContract.threshold C.FixingContract.step P.SharingPolicy.share P.SharingPolicy.told (view self.old) (B.MarginBook.means book.old) time }
-        ensures kept { OnErr result ((view self.new ≡ view self.old) × (B.MarginBook.means book.new ≡ B.MarginBook.means book.old)) }
+        requires { 1 ≤ self.old.period.price.0 }
+        ensures outcome { came result (view self.new) (B.means book.new) ≡ supplementary_outcome C.MARGIN.0 C.THRESHOLD.0 C.step P.share P.told (view self.old) (B.means book.old) time.ms }
+        ensures kept { OnErr result (Unchanged B.means self.old self.new book.old book.new) }
         ensures moved { IfOk result (λ s. is_market s.stage ≡ true → Beyond (up_for (excess (view self.old).lines)) self.old.period.price.0 s.price.0) }
     {
-        if self.table.imbalance().0 <= C::threshold_lots().0 {
+        if self.table.imbalance() <= C::THRESHOLD {
             return Ok(self.fix(time));
         }
         self.move_price(book, time)
@@ -135,11 +124,13 @@ impl<C: FixingContract, P: SharingPolicy> Session<C, P> {
         book: &mut B,
         time: u32,
     ) -> Result<Standing, SessionFault>
-        ensures outcome { came result (view self.new) (B.MarginBook.means book.new) ≡ close_outcome C.QuotedContract.margin C.FixingContract.threshold C.FixingContract.step P.SharingPolicy.share P.SharingPolicy.told (view self.old) (B.MarginBook.means book.old) time }
-        ensures kept { OnErr result ((view self.new ≡ view self.old) × (B.MarginBook.means book.new ≡ B.MarginBook.means book.old)) }
+        ensures outcome { came result (view self.new) (B.means book.new) ≡ close_outcome C.MARGIN.0 C.THRESHOLD.0 C.step P.share P.told (view self.old) (B.means book.old) time }
+        ensures kept { OnErr result (Unchanged B.means self.old self.new book.old book.new) }
         ensures moved { IfOk result (λ s. is_market s.stage ≡ true → Beyond (up_for (excess (view self.old).lines)) self.old.period.price.0 s.price.0) }
     {
-        self.check_close(time)?;
+        let open = matches!(self.period.stage, Stage::Market | Stage::Supplementary);
+        let time = self.period.admit(open, time)?;
+        check_ended(self.period.ends, time.ms)?;
         match self.period.stage {
             Stage::Market => Ok(self.close_market(time)),
             _ => self.close_supplementary(book, time),

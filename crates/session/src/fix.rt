@@ -8,26 +8,20 @@ ghost use Rattle.session.specs.State.{view, standing_at};
 
 use crate::session::Session;
 use rounds::answers::Standing;
-use rounds::periods::Period;
 use rounds::stages::Stage;
+use rounds::times::TimeOfDay;
 use sharing::policy::SharingPolicy;
 
 impl<C, P: SharingPolicy> Session<C, P> {
     /// Fixes the price: keeps what each row bought and sold, and then tells the policy.
-    pub(crate) fn fix(&mut self, time: u32) -> Standing
-        requires hour { time ≤ 86399999 }
-        requires offered { 1 ≤ self.old.period.price.0 }
-        ensures answer { result ≡ standing_at (entered self.old.period Fixed time) }
-        ensures state { view self.new ≡ fixed P.SharingPolicy.share P.SharingPolicy.told (view self.old) time }
+    pub(crate) fn fix(&mut self, time: TimeOfDay) -> Standing
+        requires { 1 ≤ self.old.period.price.0 }
+        ensures answer { result ≡ standing_at (entered self.old.period Fixed time.ms) }
+        ensures state { view self.new ≡ fixed P.share P.told (view self.old) time.ms }
     {
         self.fills = self.table.fills(&self.participants, &self.policy);
         self.policy
             .tell(self.participants.members(), self.table.imbalance());
-        self.period = Period {
-            stage: Stage::Fixed,
-            clock: time,
-            ..self.period
-        };
-        self.standing()
+        self.turn_to(Stage::Fixed, time)
     }
 }

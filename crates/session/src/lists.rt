@@ -4,6 +4,9 @@ ghost use Rattle.std.specs.Prelude.{◌≡◌, ℕ, List, length, slice_index};
 
 use measures::Ticks;
 
+/// The most executed prices of a beginning.
+pub const MOST_PRICES: usize = 10_000;
+
 /// A list of prices.
 pub trait PriceList {
     ghost prices: { Self → List ℕ };

@@ -1,8 +1,8 @@
 //! Taking lots off a line of the present round.
 
 ghost use Rattle.std.specs.Prelude.{◌≡◌, ◌≤◌, IfOk, OnErr, OnOk};
-ghost use Rattle.session.specs.Reductions.{own_line, reducible, reduce_outcome};
-ghost use Rattle.session.specs.State.{view, came};
+ghost use Rattle.session.specs.Reductions.{own_line, row_line, reduce_outcome};
+ghost use Rattle.session.specs.State.{view, came, Unchanged};
 
 use crate::session::Session;
 use books::book::MarginBook;
@@ -21,30 +21,27 @@ impl<C: QuotedContract, P> Session<C, P> {
         ensures answer { result ≡ own_line (view self.now) row line lots.0 }
         ensures price { IfOk result (λ l. l.price.0 ≤ 10000000) }
     {
-        let Some(made) = self.table.line(line) else {
-            return Err(SessionFault::NoSuchLine);
-        };
+        let made = self.table.line(line).ok_or(SessionFault::NoSuchLine)?;
         if made.row != row {
             return Err(SessionFault::NoSuchLine);
         }
         if made.round != self.period.round {
             return Err(SessionFault::EarlierRound);
         }
-        if made.lots.0 < lots.0 {
+        if made.lots < lots {
             return Err(SessionFault::FewerLots);
         }
         Ok(made)
     }
 
-    fn reducible(&self, time: u32, row: u32, line: u32, lots: Lots) -> Result<Line, SessionFault>
-        ensures answer { result ≡ reducible C.QuotedContract.largest (view self.now) time row line lots.0 }
-        ensures within { OnOk result ((time ≤ 86399999) × (lots.0 ≤ 40000)) }
+    /// The line that a row's lots come off, while they can.
+    fn reducible(&self, row: u32, line: u32, lots: Lots) -> Result<Line, SessionFault>
+        ensures answer { result ≡ row_line C.LARGEST.0 (view self.now) row line lots.0 }
+        ensures lots { OnOk result (lots.0 ≤ 40000) }
         ensures price { IfOk result (λ l. l.price.0 ≤ 10000000) }
     {
-        self.period.admit(self.period.stage == Stage::Market, time)?;
-        check_in_time(self.period.ends, time)?;
         self.participants.kind(row)?;
-        check_lots(lots, C::largest_tender())?;
+        check_lots(lots, C::LARGEST)?;
         self.own_line(row, line, lots)
     }
 
@@ -57,13 +54,16 @@ impl<C: QuotedContract, P> Session<C, P> {
         line: u32,
         lots: Lots,
     ) -> Result<Standing, SessionFault>
-        ensures outcome { came result (view self.new) (B.MarginBook.means book.new) ≡ reduce_outcome C.QuotedContract.margin C.QuotedContract.largest (view self.old) (B.MarginBook.means book.old) time row line lots.0 }
-        ensures kept { OnErr result ((view self.new ≡ view self.old) × (B.MarginBook.means book.new ≡ B.MarginBook.means book.old)) }
+        ensures outcome { came result (view self.new) (B.means book.new) ≡ reduce_outcome C.MARGIN.0 C.LARGEST.0 (view self.old) (B.means book.old) time row line lots.0 }
+        ensures kept { OnErr result (Unchanged B.means self.old self.new book.old book.new) }
     {
-        let tendered = self.reducible(time, row, line, lots)?;
+        let open = self.period.stage == Stage::Market;
+        let time = self.period.admit(open, time)?;
+        check_in_time(self.period.ends, time.ms)?;
+        let tendered = self.reducible(row, line, lots)?;
         book.release(row, margin_of::<C>(lots, tendered.price))?;
         self.table.reduce(line, lots);
-        self.period.clock = time;
+        self.period.clock = time.ms;
         Ok(self.standing())
     }
 }

@@ -1,12 +1,11 @@
 //! The record of one session.
 
-ghost use Rattle.std.specs.Prelude.{◌≡◌, ◌≤◌, true, ◌||◌, length, take, nat_le};
-ghost use Rattle.rounds.specs.Moves.{of_ticks};
-ghost use Rattle.rounds.specs.Stages.{is_quoting};
+ghost use Rattle.std.specs.Prelude.{◌≡◌, length, take};
 ghost use Rattle.participants.specs.Named.{prices_of};
 ghost use Rattle.participants.specs.Rosters.{rows_of};
 ghost use Rattle.lines.specs.Entries.{width_of};
 ghost use Rattle.lines.specs.Fills.{Level};
+ghost use Rattle.session.specs.Periods.{Lawful};
 
 use lines::fills::Fill;
 use lines::table::LineTable;
@@ -19,10 +18,12 @@ use std::marker::PhantomData;
 /// the margin book is lent to each call that needs it, since another session may stand over the same book.
 #[derive(Drop)]
 pub struct Session<C, P> {
+    // three tables by row and not one of rows: each keeps to bounds of its own, and the sheet lends the fills as they lie
     pub(crate) participants: Participants,
     pub(crate) quotes: Quotes,
     pub(crate) table: LineTable,
     /// What the fix gave each row; nothing before it.
+    // room for the most rows there can be: a fix replaces it whole and takes no memory
     pub(crate) fills: [Fill; MOST_ROWS],
     pub(crate) period: Period,
     pub(crate) policy: P,
@@ -30,12 +31,5 @@ pub struct Session<C, P> {
     ghost quoted: { length (prices_of quotes) ≡ length (rows_of participants) },
     ghost tied: { width_of table ≡ length (rows_of participants) },
     ghost level: { Level (take (length (rows_of participants)) fills) },
-    ghost priced: { period.price.0 ≤ 10000000 },
-    ghost offered: { (is_quoting period.stage || nat_le 1 period.price.0) ≡ true },
-    ghost known: { 1 ≤ period.previous.0 },
-    ghost before: { period.previous.0 ≤ 10000000 },
-    ghost rounded: { period.round ≤ 64 },
-    ghost hour: { period.clock ≤ 86399999 },
-    ghost timed: { period.ends ≤ 86700000 },
-    ghost moved: { of_ticks period.last ≡ true },
+    ghost lawful: { Lawful period },
 }

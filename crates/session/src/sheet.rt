@@ -30,7 +30,7 @@ impl<C, P> Session<C, P> {
         }
         Ok(Sheet {
             price: self.period.price,
-            fills: &self.fills[0..self.participants.count()],
+            fills: &self.fills[..self.participants.count()],
         })
     }
 }

@@ -1,9 +1,8 @@
 //! Striking lines on the way into another period.
 
-ghost use Rattle.std.specs.Prelude.{◌≡◌, ◌≤◌, true, ◌||◌, IfOk, OnErr};
-ghost use Rattle.rounds.specs.Moves.{of_ticks};
-ghost use Rattle.rounds.specs.Stages.{is_quoting};
-ghost use Rattle.session.specs.State.{view, came, standing_at};
+ghost use Rattle.std.specs.Prelude.{◌≡◌, IfOk, OnErr};
+ghost use Rattle.session.specs.Periods.{Lawful};
+ghost use Rattle.session.specs.State.{view, came, Unchanged, standing_at};
 ghost use Rattle.session.specs.Striking.{strike_into};
 
 use crate::session::Session;
@@ -22,16 +21,9 @@ impl<C: QuotedContract, P> Session<C, P> {
         which: Struck,
         period: Period,
     ) -> Result<Standing, SessionFault>
-        requires price { period.price.0 ≤ 10000000 }
-        requires offered { 1 ≤ period.price.0 }
-        requires known { 1 ≤ period.previous.0 }
-        requires previous { period.previous.0 ≤ 10000000 }
-        requires round { period.round ≤ 64 }
-        requires hour { period.clock ≤ 86399999 }
-        requires ends { period.ends ≤ 86700000 }
-        requires moved { of_ticks period.last ≡ true }
-        ensures outcome { came result (view self.new) (B.MarginBook.means book.new) ≡ strike_into C.QuotedContract.margin (view self.old) (B.MarginBook.means book.old) which period }
-        ensures kept { OnErr result ((view self.new ≡ view self.old) × (B.MarginBook.means book.new ≡ B.MarginBook.means book.old)) }
+        requires { Lawful period }
+        ensures outcome { came result (view self.new) (B.means book.new) ≡ strike_into C.MARGIN.0 (view self.old) (B.means book.old) which period }
+        ensures kept { OnErr result (Unchanged B.means self.old self.new book.old book.new) }
         ensures standing { IfOk result (λ s. s ≡ standing_at period) }
     {
         self.table.strike::<C, B>(book, which)?;

@@ -1,11 +1,10 @@
 //! Suspension, and the two measures that end it.
 
-ghost use Rattle.std.specs.Prelude.{◌≡◌, ◌<◌, ◌≤◌, IfErr, OnErr, OnOk};
+ghost use Rattle.std.specs.Prelude.{◌≡◌, IfErr, OnErr};
 ghost use Rattle.books.specs.Accounts.{Accounts};
-ghost use Rattle.rounds.specs.Gates.{then_ok};
-ghost use Rattle.session.specs.Measures.{suspend_check, measure_check, round_left, suspend_outcome, reissue_outcome, announce_outcome};
+ghost use Rattle.session.specs.Measures.{suspend_outcome, reissue_outcome, announce_outcome};
 ghost use Rattle.session.specs.Orders.{with_order, without_order};
-ghost use Rattle.session.specs.State.{view, came};
+ghost use Rattle.session.specs.State.{view, came, Unchanged};
 
 use crate::close::LAST_ROUND;
 use crate::orders::{RefusedMeasure, SuspensionOrder};
@@ -21,45 +20,18 @@ use rounds::sides::Struck;
 use rounds::stages::Stage;
 
 impl<C, P> Session<C, P> {
-    fn check_suspend(&self, time: u32) -> Result<(), SessionFault>
-        ensures answer { result ≡ suspend_check (view self.now) time }
-        ensures hour { OnOk result (time ≤ 86399999) }
-        ensures offered { OnOk result (1 ≤ self.now.period.price.0) }
-    {
-        let running = self.period.stage == Stage::Market
-            || self.period.stage == Stage::Supplementary
-            || self.period.stage == Stage::Halted;
-        self.period.admit(running, time)
-    }
-
     /// Suspends the session, and hands out the order that a measure takes back.
     pub fn suspend(&mut self, time: u32) -> Result<(Standing, SuspensionOrder), SessionFault>
         ensures outcome { (m : Accounts) → came (without_order result) (view self.new) m ≡ suspend_outcome (view self.old) m time }
         ensures kept { OnErr result (view self.new ≡ view self.old) }
     {
-        self.check_suspend(time)?;
+        let running = matches!(
+            self.period.stage,
+            Stage::Market | Stage::Supplementary | Stage::Halted
+        );
+        let time = self.period.admit(running, time)?;
         let standing = self.turn_to(Stage::Suspended, time);
         Ok((standing, SuspensionOrder::new(self.period.round)))
-    }
-
-    fn check_measure(&self, time: u32, price: Ticks) -> Result<(), SessionFault>
-        ensures answer { result ≡ measure_check (view self.now) time price.0 }
-        ensures within { OnOk result ((time ≤ 86399999) × (1 ≤ price.0) × (price.0 ≤ 10000000)) }
-    {
-        self.period
-            .admit(self.period.stage == Stage::Suspended, time)?;
-        check_price(price, 0)
-    }
-
-    fn check_reissue(&self, time: u32, price: Ticks) -> Result<(), SessionFault>
-        ensures answer { result ≡ then_ok (measure_check (view self.now) time price.0) (round_left (view self.now)) }
-        ensures within { OnOk result ((time ≤ 86399999) × (1 ≤ price.0) × (price.0 ≤ 10000000) × (self.now.period.round < 64)) }
-    {
-        self.check_measure(time, price)?;
-        if self.period.round >= LAST_ROUND {
-            return Err(SessionFault::LastRound);
-        }
-        Ok(())
     }
 }
 
@@ -70,16 +42,21 @@ impl<C: QuotedContract, P> Session<C, P> {
         time: u32,
         price: Ticks,
     ) -> Result<Standing, SessionFault>
-        ensures outcome { came result (view self.new) (B.MarginBook.means book.new) ≡ reissue_outcome C.QuotedContract.margin (view self.old) (B.MarginBook.means book.old) time price }
-        ensures kept { OnErr result ((view self.new ≡ view self.old) × (B.MarginBook.means book.new ≡ B.MarginBook.means book.old)) }
+        ensures outcome { came result (view self.new) (B.means book.new) ≡ reissue_outcome C.MARGIN.0 (view self.old) (B.means book.old) time price }
+        ensures kept { OnErr result (Unchanged B.means self.old self.new book.old book.new) }
     {
-        self.check_reissue(time, price)?;
+        let suspended = self.period.stage == Stage::Suspended;
+        let time = self.period.admit(suspended, time)?;
+        check_price(price, 0)?;
+        if self.period.round >= LAST_ROUND {
+            return Err(SessionFault::LastRound);
+        }
         let period = Period {
             stage: Stage::Market,
             round: self.period.round + 1,
             price,
-            clock: time,
-            ends: time + 60_000,
+            clock: time.ms,
+            ends: time.ms + 60_000,
             last: None,
             ..self.period
         };
@@ -92,14 +69,16 @@ impl<C: QuotedContract, P> Session<C, P> {
         time: u32,
         price: Ticks,
     ) -> Result<Standing, SessionFault>
-        ensures outcome { came result (view self.new) (B.MarginBook.means book.new) ≡ announce_outcome C.QuotedContract.margin (view self.old) (B.MarginBook.means book.old) time price }
-        ensures kept { OnErr result ((view self.new ≡ view self.old) × (B.MarginBook.means book.new ≡ B.MarginBook.means book.old)) }
+        ensures outcome { came result (view self.new) (B.means book.new) ≡ announce_outcome C.MARGIN.0 (view self.old) (B.means book.old) time price }
+        ensures kept { OnErr result (Unchanged B.means self.old self.new book.old book.new) }
     {
-        self.check_measure(time, price)?;
+        let suspended = self.period.stage == Stage::Suspended;
+        let time = self.period.admit(suspended, time)?;
+        check_price(price, 0)?;
         let period = Period {
             stage: Stage::Announced,
             price,
-            clock: time,
+            clock: time.ms,
             ..self.period
         };
         self.strike_into(book, Struck::All, period)
@@ -115,14 +94,15 @@ impl SuspensionOrder {
         time: u32,
         price: Ticks,
     ) -> Result<Standing, RefusedMeasure>
-        ensures outcome { came (with_order result) (view session.new) (B.MarginBook.means book.new) ≡ reissue_outcome C.QuotedContract.margin (view session.old) (B.MarginBook.means book.old) time price }
-        ensures kept { OnErr result ((view session.new ≡ view session.old) × (B.MarginBook.means book.new ≡ B.MarginBook.means book.old)) }
+        ensures outcome { came (with_order result) (view session.new) (B.means book.new) ≡ reissue_outcome C.MARGIN.0 (view session.old) (B.means book.old) time price }
+        ensures kept { OnErr result (Unchanged B.means session.old session.new book.old book.new) }
         ensures order { IfErr result (λ e. e.order ≡ self) }
     {
         self.settle(session.reissue(book, time, price))
     }
 
     /// Strikes all lines and sets the benchmark; nothing is filled. A refusal hands the order back.
+    // beside `reissue` and not one with it: each is a line, and its contract names its own outcome
     pub fn announce<C: QuotedContract, P, B: MarginBook>(
         self,
         session: &mut Session<C, P>,
@@ -130,8 +110,8 @@ impl SuspensionOrder {
         time: u32,
         price: Ticks,
     ) -> Result<Standing, RefusedMeasure>
-        ensures outcome { came (with_order result) (view session.new) (B.MarginBook.means book.new) ≡ announce_outcome C.QuotedContract.margin (view session.old) (B.MarginBook.means book.old) time price }
-        ensures kept { OnErr result ((view session.new ≡ view session.old) × (B.MarginBook.means book.new ≡ B.MarginBook.means book.old)) }
+        ensures outcome { came (with_order result) (view session.new) (B.means book.new) ≡ announce_outcome C.MARGIN.0 (view session.old) (B.means book.old) time price }
+        ensures kept { OnErr result (Unchanged B.means session.old session.new book.old book.new) }
         ensures order { IfErr result (λ e. e.order ≡ self) }
     {
         self.settle(session.announce(book, time, price))

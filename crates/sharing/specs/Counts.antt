@@ -1,8 +1,9 @@
-use Rattle.std.specs.Prelude.{◌≡◌, ℕ, zero, suc, ◌+◌, ◌-◌, ◌*◌, ◌/◌, ◌%◌, ◌<◌, ◌≤◌, min, Bool, true, cond, ◌⊎◌, nat_lt}
+use Rattle.std.specs.Prelude.{◌≡◌, ℕ, zero, suc, ◌+◌, ◌-◌, ◌*◌, ◌/◌, ◌%◌, ◌<◌, ◌≤◌, min, Bool, true, cond, nat_lt}
 use Rattle.std.proofs.Common.{⊎_elim, ◌∙◌, ap, suc-mul, mod-lt, mod-eq_of_lt, arith}
 use Rattle.std.proofs.Math.Nat.{div-add-mod, add-mod_right}
+use Rattle.std.proofs.lemmas.Bool.{cases_lt}
 use Rattle.std.proofs.lemmas.Bool.Decides.{nat_tests}
-use Rattle.sharing.specs.Shares.{in_bounds, below, shared_out, table_extra, start_of, turn_extra}
+use Rattle.sharing.specs.Shares.{in_bounds, below, shared_out, table_extra, table_share, start_of, turn_extra, turn_share}
 
 -- how many places below k are marked
 abbrev pub marked : (ℕ → Bool) → ℕ → ℕ
@@ -53,18 +54,22 @@ ahead n s i h l =
     let low : i - s < n = omega arith in
     ap (λ m. m % n) far ∙ add-mod_right (i - s) n ∙ mod-eq_of_lt low
 
+-- table order is by turn from the first place on
+pub turn_from_first : (n q i : ℕ) → turn_share 0 n q i ≡ table_share n q i
+turn_from_first n q i = ⊎_elim
+    (λ (p : i < n). let here = ahead n 0 i (omega arith) p in grind (arith, nat_tests))
+    (λ (p : n ≤ i). grind (arith, nat_tests))
+    (cases_lt i n)
+
 -- of the r places from s on, around the table, min k (r + s - n) stand before s and below k, and min (k - s) r from s on
 turned : (n s r k : ℕ) → s < n → r < n → k ≤ n → marked (λ i. nat_lt ((i + n - s) % n) r) k ≡ min k (r + s - n) + min (k - s) r
 turned n s r zero h l m = omega arith
 turned n s r (suc k) h l m =
     let before = turned n s r k h l (omega arith) in
     ⊎_elim
-    (λ (p : suc k ≤ s). let here = around n s k h p in grind (arith, nat_tests))
+    (λ (p : k < s). let here = around n s k h p in grind (arith, nat_tests))
     (λ (p : s ≤ k). let here = ahead n s k p m in grind (arith, nat_tests))
-    (sides k s)
-  where
-    sides : (a b : ℕ) → (suc a ≤ b) ⊎ (b ≤ a)
-    sides a b = grind (arith, nat_tests)
+    (cases_lt k s)
 
 pub turn : (s n q : ℕ) → in_bounds n q ≡ true → marked (turn_extra s n q) n ≡ q % n
 turn s n q h =
@@ -72,3 +77,11 @@ turn s n q h =
     let start = mod-lt (start_of s) (some n q h) in
     let count = turned n (start_of s % n) (q % n) n start low (omega arith) in
     omega arith
+
+-- the shares by turn are whole, from any start
+pub turn_whole : (s n q : ℕ) → in_bounds n q ≡ true → below n (turn_share s n q) ≡ q
+turn_whole s n q h = whole (turn_extra s n q) n q h (turn s n q h)
+
+-- and so they are in table order
+pub table_whole : (n q : ℕ) → in_bounds n q ≡ true → below n (table_share n q) ≡ q
+table_whole n q h = whole (table_extra n q) n q h (table n q h)

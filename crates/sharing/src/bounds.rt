@@ -9,5 +9,5 @@ use measures::Lots;
 pub(crate) fn in_bounds(members: u32, excess: Lots) -> bool
     ensures { result ≡ in_bounds members excess.0 }
 {
-    1 <= members && members <= 32 && excess.0 <= 163_840_000
+    (1..=32).contains(&members) && excess.0 <= 163_840_000
 }

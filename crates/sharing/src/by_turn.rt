@@ -7,6 +7,7 @@ ghost use Rattle.std.proofs.Common.{rules};
 
 use crate::bounds::in_bounds;
 use crate::policy::SharingPolicy;
+use crate::turns::share_from;
 use measures::Lots;
 
 /// By turn: the extra lots of a fix start at the place after the last extra lot of the fix before. A start of 32 or more
@@ -30,7 +31,7 @@ impl SharingPolicy for ByTurn {
 
     ghost told = { turn_told };
 
-    ghost whole = { λ p n q h. Counts.whole (turn_extra p.start n q) n q h (Counts.turn p.start n q h) };
+    ghost whole = { λ p. Counts.turn_whole p.start };
 
     ghost level = { λ p n q. Counts.level (turn_extra p.start n q) n q };
 
@@ -41,12 +42,7 @@ impl SharingPolicy for ByTurn {
     ghost unmoved = { Prim.search rules };
 
     fn share_of(&self, members: u32, excess: Lots, place: u32) -> Lots {
-        if !in_bounds(members, excess) || place >= members {
-            return Lots(0);
-        }
-        let turn = (place + members - self.place() % members) % members;
-        let extra = if turn < excess.0 % members { 1 } else { 0 };
-        Lots(excess.0 / members + extra)
+        share_from(self.place(), members, excess, place)
     }
 
     fn tell(&mut self, members: u32, excess: Lots) {
@@ -57,8 +53,6 @@ impl SharingPolicy for ByTurn {
 }
 
 /// Five lots by turn among three members, from the last place on: two, one and two.
-pub fn turns_stand() -> u8
+pub fn turns_stand()
     ensures { (turn_share 2 3 5 0 ≡ 2) × (turn_share 2 3 5 1 ≡ 1) × (turn_share 2 3 5 2 ≡ 2) }
-{
-    0
-}
+{}

@@ -6,3 +6,4 @@ mod bounds;
 pub mod by_turn;
 pub mod policy;
 pub mod table_order;
+mod turns;

@@ -11,6 +11,7 @@ pub trait SharingPolicy {
 
     ghost told: { Self → ℕ → ℕ → Self };
 
+    // Members and excess stay two numbers: the shares are a sum over the one and a part of the other, and a struct of both is no plainer.
     /// The lots of one place.
     fn share_of(&self, members: u32, excess: Lots, place: u32) -> Lots
         ensures { result.0 ≡ share self.now members excess.0 place };

@@ -2,11 +2,10 @@
 
 ghost use Rattle.sharing.specs.Shares.{table_share, table_extra};
 ghost use Rattle.sharing.specs.Counts;
-ghost use Rattle.sharing.specs.Counts.{table};
 ghost use Rattle.std.proofs.Common.{rules};
 
-use crate::bounds::in_bounds;
 use crate::policy::SharingPolicy;
+use crate::turns::share_from;
 use measures::Lots;
 
 /// Table order: it holds nothing, and being told changes nothing.
@@ -18,9 +17,9 @@ impl SharingPolicy for TableOrder {
 
     ghost told = { λ p n q. p };
 
-    ghost whole = { λ p n q h. Counts.whole (table_extra n q) n q h (table n q h) };
+    ghost whole = { λ _. Counts.table_whole };
 
-    ghost level = { λ p n q. Counts.level (table_extra n q) n q };
+    ghost level = { λ _ n q. Counts.level (table_extra n q) n q };
 
     ghost outside = { Prim.search rules };
 
@@ -28,12 +27,9 @@ impl SharingPolicy for TableOrder {
 
     ghost unmoved = { Prim.search rules };
 
+    #[tactic(auto, using(crate::specs::Counts::turn_from_first))]
     fn share_of(&self, members: u32, excess: Lots, place: u32) -> Lots {
-        if !in_bounds(members, excess) || place >= members {
-            return Lots(0);
-        }
-        let extra = if place < excess.0 % members { 1 } else { 0 };
-        Lots(excess.0 / members + extra)
+        share_from(0, members, excess, place)
     }
 
     fn tell(&mut self, _members: u32, _excess: Lots) {}

@@ -1,10 +1,9 @@
 //! Tenders for accounts that the book does not know, and for the last ones that it does.
 
 use crate::expected::{holds, is_unknown, refused, taken};
-use crate::setup::{
-    BEGUN, CUSTOMER, bank_line, bank_line_book, buy, cash_book, free, gold, held, sell,
-};
+use crate::setup::{BEGUN, CUSTOMER, bank_line, book_of, free, gold, held, tender};
 use crate::tally::Tally;
+use rounds::sides::Side;
 use std::alloc::Global;
 
 /// The most that an account holds.
@@ -13,12 +12,19 @@ const MOST: u64 = 4_000_000_000_000_000_000;
 /// The book ends before the customer's row. A lot at 100 asks 100 × 60 = 6,000 fen.
 fn a_row_without_an_account(heap: Global) -> Option<bool> {
     let mut session = gold(heap, 100)?;
-    let mut book = cash_book(heap, &[free(0), free(0), free(6_000)])?;
+    let mut book = book_of(heap, &[free(0), free(0), free(6_000)])?;
     Some(
         is_unknown(&book, CUSTOMER)
-            && refused(buy(&mut session, &mut book, BEGUN, CUSTOMER, 1), 31)
+            && refused(
+                tender(Side::Buy, &mut session, &mut book, BEGUN, CUSTOMER, 1),
+                31,
+            )
             && is_unknown(&book, CUSTOMER)
-            && taken(buy(&mut session, &mut book, BEGUN, 2, 1), 0, 1)
+            && taken(
+                tender(Side::Buy, &mut session, &mut book, BEGUN, 2, 1),
+                0,
+                1,
+            )
             && holds(&book, 2, 0, 6_000),
     )
 }
@@ -32,12 +38,19 @@ fn cash_above_the_most(heap: Global) -> Option<bool> {
         held(0, MOST + 1),
         held(u64::MAX, u64::MAX),
     ];
-    let mut book = cash_book(heap, &accounts)?;
+    let mut book = book_of(heap, &accounts)?;
     Some(
-        refused(sell(&mut session, &mut book, BEGUN, 1, 1), 31)
-            && refused(sell(&mut session, &mut book, BEGUN, 2, 1), 31)
-            && refused(sell(&mut session, &mut book, BEGUN, CUSTOMER, 1), 31)
-            && taken(sell(&mut session, &mut book, BEGUN, 0, 1), 0, 1)
+        refused(tender(Side::Sell, &mut session, &mut book, BEGUN, 1, 1), 31)
+            && refused(tender(Side::Sell, &mut session, &mut book, BEGUN, 2, 1), 31)
+            && refused(
+                tender(Side::Sell, &mut session, &mut book, BEGUN, CUSTOMER, 1),
+                31,
+            )
+            && taken(
+                tender(Side::Sell, &mut session, &mut book, BEGUN, 0, 1),
+                0,
+                1,
+            )
             && holds(&book, 0, 0, MOST)
             && is_unknown(&book, 1),
     )
@@ -52,12 +65,19 @@ fn bank_lines_above_the_most(heap: Global) -> Option<bool> {
         bank_line(6_000, 6_001),
         bank_line(6_000, 6_000),
     ];
-    let mut book = bank_line_book(heap, &accounts)?;
+    let mut book = book_of(heap, &accounts)?;
     Some(
-        refused(buy(&mut session, &mut book, BEGUN, 1, 1), 31)
-            && refused(buy(&mut session, &mut book, BEGUN, 2, 1), 31)
-            && refused(buy(&mut session, &mut book, BEGUN, CUSTOMER, 1), 32)
-            && taken(buy(&mut session, &mut book, BEGUN, 0, 1), 0, 1)
+        refused(tender(Side::Buy, &mut session, &mut book, BEGUN, 1, 1), 31)
+            && refused(tender(Side::Buy, &mut session, &mut book, BEGUN, 2, 1), 31)
+            && refused(
+                tender(Side::Buy, &mut session, &mut book, BEGUN, CUSTOMER, 1),
+                32,
+            )
+            && taken(
+                tender(Side::Buy, &mut session, &mut book, BEGUN, 0, 1),
+                0,
+                1,
+            )
             && holds(&book, 0, MOST - 6_000, 6_000)
             && is_unknown(&book, 2)
             && holds(&book, CUSTOMER, 0, 6_000),
@@ -65,16 +85,9 @@ fn bank_lines_above_the_most(heap: Global) -> Option<bool> {
 }
 
 /// Plays the trials of this file.
-pub fn play(rt: &HostRuntime, heap: Global, tally: &mut Tally) -> anyhow::Result<()> {
-    tally.note(
-        rt,
-        "a_row_without_an_account",
-        a_row_without_an_account(heap),
-    )?;
-    tally.note(rt, "cash_above_the_most", cash_above_the_most(heap))?;
-    tally.note(
-        rt,
-        "bank_lines_above_the_most",
-        bank_lines_above_the_most(heap),
-    )
+// call by call: a table of the trials would be function pointers that are handed out
+pub fn play(tally: &mut Tally) -> anyhow::Result<()> {
+    tally.play("a_row_without_an_account", a_row_without_an_account)?;
+    tally.play("cash_above_the_most", cash_above_the_most)?;
+    tally.play("bank_lines_above_the_most", bank_lines_above_the_most)
 }

@@ -11,10 +11,7 @@ use session::session::Session;
 
 /// Whether a call was refused by this number.
 pub fn refused<T: Drop>(answer: Result<T, SessionFault>, number: u32) -> bool {
-    match answer {
-        Ok(_) => false,
-        Err(fault) => fault.number() == number,
-    }
+    answer.is_err_and(|fault| fault.number() == number)
 }
 
 /// Whether a session stands in this stage, at this price.
@@ -25,27 +22,18 @@ pub fn is_at(standing: Standing, stage: Stage, price: u32) -> bool {
 
 /// Whether a call was accepted, and led to this stage and price.
 pub fn stands(answer: Result<Standing, SessionFault>, stage: Stage, price: u32) -> bool {
-    match answer {
-        Ok(standing) => is_at(standing, stage, price),
-        Err(_) => false,
-    }
+    answer.is_ok_and(|standing| is_at(standing, stage, price))
 }
 
 /// Whether a tender was accepted as this line, with so many lots taken.
 pub fn taken(answer: Result<Tendered, SessionFault>, line: u32, lots: u32) -> bool {
     let lots = Lots(lots);
-    match answer {
-        Ok(tendered) => tendered == Tendered { line, lots },
-        Err(_) => false,
-    }
+    answer == Ok(Tendered { line, lots })
 }
 
 /// Whether an account holds these sums.
 pub fn holds<B: MarginBook>(book: &B, account: u32, free: u64, frozen: u64) -> bool {
-    match book.balance(account) {
-        Some(balance) => balance == held(free, frozen),
-        None => false,
-    }
+    book.balance(account) == Some(held(free, frozen))
 }
 
 /// Whether an account is unknown.
@@ -63,8 +51,5 @@ pub fn fill(bought: u32, sold: u32) -> Fill {
 
 /// Whether a session has a sheet at this price, with these fills.
 pub fn filled<C, P>(session: &Session<C, P>, price: u32, fills: &[Fill]) -> bool {
-    match session.sheet() {
-        Ok(sheet) => sheet.price == Ticks(price) && sheet.fills == fills,
-        Err(_) => false,
-    }
+    session.sheet().is_ok_and(|sheet| sheet.price == Ticks(price) && sheet.fills == fills)
 }

@@ -2,7 +2,7 @@
 
 use crate::expected::{fill, filled, holds, is_at, refused, stands, taken};
 use crate::setup::{
-    BEGUN, CLOSED, CUSTOMER, OPENED, ROSTER, ROUND_OVER, buy, cash_book, free, market, sell,
+    BEGUN, CLOSED, CUSTOMER, OPENED, ROSTER, ROUND_OVER, book_of, free, market, tender,
 };
 use crate::tally::Tally;
 use contracts::shag::Shag;
@@ -10,6 +10,7 @@ use contracts::shau::Shau;
 use measures::{Lots, Ticks};
 use messages::rows::Rows;
 use rounds::faults::SessionFault;
+use rounds::sides::Side;
 use rounds::stages::Stage;
 use session::session::Session;
 use sharing::by_turn::ByTurn;
@@ -23,10 +24,8 @@ fn opened(heap: Global, limit: usize) -> Result<Session<Shau, TableOrder>, Sessi
 
 /// Whether a session opens with a limit.
 fn opens(heap: Global, limit: usize) -> bool {
-    match opened(heap, limit) {
-        Ok(session) => is_at(session.standing(), Stage::Quoting, 0) && session.row_count() == 4,
-        Err(_) => false,
-    }
+    opened(heap, limit).is_ok_and(|session| is_at(session.standing(), Stage::Quoting, 0)
+        && session.row_count() == 4)
 }
 
 fn limits_at_an_opening(heap: Global) -> Option<bool> {
@@ -43,12 +42,18 @@ fn limits_at_an_opening(heap: Global) -> Option<bool> {
 /// A lot is 6,000 fen.
 fn one_line(heap: Global) -> Option<bool> {
     let mut session: Session<Shau, ByTurn> = market(heap, 100, 1, ByTurn { start: 0 })?;
-    let mut book = cash_book(heap, &[free(12_000), free(12_000)])?;
+    let mut book = book_of(heap, &[free(12_000), free(12_000)])?;
     Some(
-        taken(buy(&mut session, &mut book, BEGUN, 0, 1), 0, 1)
-            && refused(buy(&mut session, &mut book, BEGUN, 0, 1), 30)
-            && refused(sell(&mut session, &mut book, BEGUN, 1, 1), 30)
-            && refused(buy(&mut session, &mut book, BEGUN, CUSTOMER, 1), 30)
+        taken(
+            tender(Side::Buy, &mut session, &mut book, BEGUN, 0, 1),
+            0,
+            1,
+        ) && refused(tender(Side::Buy, &mut session, &mut book, BEGUN, 0, 1), 30)
+            && refused(tender(Side::Sell, &mut session, &mut book, BEGUN, 1, 1), 30)
+            && refused(
+                tender(Side::Buy, &mut session, &mut book, BEGUN, CUSTOMER, 1),
+                30,
+            )
             && holds(&book, 0, 6_000, 6_000)
             && holds(&book, 1, 12_000, 0)
             && stands(
@@ -56,7 +61,7 @@ fn one_line(heap: Global) -> Option<bool> {
                 Stage::Market,
                 100,
             )
-            && refused(buy(&mut session, &mut book, BEGUN, 0, 1), 30)
+            && refused(tender(Side::Buy, &mut session, &mut book, BEGUN, 0, 1), 30)
             && holds(&book, 0, 12_000, 0),
     )
 }
@@ -64,12 +69,18 @@ fn one_line(heap: Global) -> Option<bool> {
 /// A supplementary tender finds no room, after the side is checked. The lot that remains is shared: row 0 sells it.
 fn one_line_in_the_supplementary_period(heap: Global) -> Option<bool> {
     let mut session: Session<Shau, ByTurn> = market(heap, 100, 1, ByTurn { start: 0 })?;
-    let mut book = cash_book(heap, &[free(6_000), free(6_000)])?;
+    let mut book = book_of(heap, &[free(6_000), free(6_000)])?;
     Some(
-        taken(buy(&mut session, &mut book, BEGUN, 0, 1), 0, 1)
-            && stands(session.close(&mut book, CLOSED), Stage::Supplementary, 100)
-            && refused(buy(&mut session, &mut book, CLOSED, 1, 1), 25)
-            && refused(sell(&mut session, &mut book, CLOSED, 1, 1), 30)
+        taken(
+            tender(Side::Buy, &mut session, &mut book, BEGUN, 0, 1),
+            0,
+            1,
+        ) && stands(session.close(&mut book, CLOSED), Stage::Supplementary, 100)
+            && refused(tender(Side::Buy, &mut session, &mut book, CLOSED, 1, 1), 25)
+            && refused(
+                tender(Side::Sell, &mut session, &mut book, CLOSED, 1, 1),
+                30,
+            )
             && holds(&book, 1, 6_000, 0)
             && stands(session.close(&mut book, ROUND_OVER), Stage::Fixed, 100)
             && filled(
@@ -85,16 +96,15 @@ fn one_line_in_the_supplementary_period(heap: Global) -> Option<bool> {
 fn all_4096_lines(heap: Global) -> Option<bool> {
     let sum = 245_759_606_784_000_000;
     let mut session: Session<Shag, TableOrder> = market(heap, 9_999_984, 4_096, TableOrder)?;
-    let mut book = cash_book(heap, &[free(sum)])?;
-    for line in 0..4_096 {
-        let answer = buy(&mut session, &mut book, BEGUN, 0, 40_000);
-        if !taken(answer, line, 40_000) {
-            return Some(false);
-        }
-    }
+    let mut book = book_of(heap, &[free(sum)])?;
+    let all_taken = (0..4_096).all(|line| {
+        let answer = tender(Side::Buy, &mut session, &mut book, BEGUN, 0, 40_000);
+        taken(answer, line, 40_000)
+    });
     Some(
-        holds(&book, 0, 0, sum)
-            && refused(buy(&mut session, &mut book, BEGUN, 0, 1), 30)
+        all_taken
+            && holds(&book, 0, 0, sum)
+            && refused(tender(Side::Buy, &mut session, &mut book, BEGUN, 0, 1), 30)
             && stands(
                 session.close(&mut book, CLOSED),
                 Stage::Supplementary,
@@ -106,18 +116,21 @@ fn all_4096_lines(heap: Global) -> Option<bool> {
                 10_000_000,
             )
             && holds(&book, 0, sum, 0)
-            && refused(buy(&mut session, &mut book, ROUND_OVER, 0, 1), 30),
+            && refused(
+                tender(Side::Buy, &mut session, &mut book, ROUND_OVER, 0, 1),
+                30,
+            ),
     )
 }
 
 /// Plays the trials of this file.
-pub fn play(rt: &HostRuntime, heap: Global, tally: &mut Tally) -> anyhow::Result<()> {
-    tally.note(rt, "limits_at_an_opening", limits_at_an_opening(heap))?;
-    tally.note(rt, "one_line", one_line(heap))?;
-    tally.note(
-        rt,
+// call by call: a table of the trials would be function pointers that are handed out
+pub fn play(tally: &mut Tally) -> anyhow::Result<()> {
+    tally.play("limits_at_an_opening", limits_at_an_opening)?;
+    tally.play("one_line", one_line)?;
+    tally.play(
         "one_line_in_the_supplementary_period",
-        one_line_in_the_supplementary_period(heap),
+        one_line_in_the_supplementary_period,
     )?;
-    tally.note(rt, "all_4096_lines", all_4096_lines(heap))
+    tally.play("all_4096_lines", all_4096_lines)
 }

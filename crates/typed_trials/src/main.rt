@@ -21,18 +21,17 @@ mod tally;
 use tally::Tally;
 
 fn main(rt: HostRuntime) -> anyhow::Result<()> {
-    let heap = rt.alloc();
-    let mut tally = Tally::new();
-    openings::play(&rt, heap, &mut tally)?;
-    limits::play(&rt, heap, &mut tally)?;
-    margins::play(&rt, heap, &mut tally)?;
-    accounts::play(&rt, heap, &mut tally)?;
-    reductions::play(&rt, heap, &mut tally)?;
-    striking::play(&rt, heap, &mut tally)?;
-    orders::play(&rt, heap, &mut tally)?;
-    shares::play(&rt, heap, &mut tally)?;
-    sheets::play(&rt, heap, &mut tally)?;
-    one_book::play(&rt, heap, &mut tally)?;
+    let mut tally = Tally::new(&rt);
+    openings::play(&mut tally)?;
+    limits::play(&mut tally)?;
+    margins::play(&mut tally)?;
+    accounts::play(&mut tally)?;
+    reductions::play(&mut tally)?;
+    striking::play(&mut tally)?;
+    orders::play(&mut tally)?;
+    shares::play(&mut tally)?;
+    sheets::play(&mut tally)?;
+    one_book::play(&mut tally)?;
     println!(rt; "{tally} sessions without words agree")?;
     Ok(())
 }

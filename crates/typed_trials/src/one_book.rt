@@ -1,12 +1,11 @@
 //! Two sessions over one book: the account of a row is the same in both.
 
 use crate::expected::{holds, is_at, refused, stands, taken};
-use crate::setup::{
-    BEGUN, CUSTOMER, bank_line, bank_line_book, buy, cash_book, free, gold, sell, silver,
-};
+use crate::setup::{BEGUN, CUSTOMER, bank_line, book_of, free, gold, silver, tender};
 use crate::suspension::{Suspended, spent, suspend};
 use crate::tally::Tally;
 use measures::{Lots, Ticks};
+use rounds::sides::Side;
 use rounds::stages::Stage;
 use std::alloc::Global;
 
@@ -15,25 +14,44 @@ use std::alloc::Global;
 fn what_one_freezes_the_other_cannot(heap: Global) -> Option<bool> {
     let mut gold = gold(heap, 100)?;
     let mut silver = silver(heap, 100)?;
-    let mut book = cash_book(heap, &[free(0), free(0), free(0), free(75_000)])?;
+    let mut book = book_of(heap, &[free(0), free(0), free(0), free(75_000)])?;
     Some(
-        taken(buy(&mut gold, &mut book, BEGUN, CUSTOMER, 10), 0, 10)
-            && taken(sell(&mut silver, &mut book, BEGUN, CUSTOMER, 1), 0, 1)
-            && holds(&book, CUSTOMER, 0, 75_000)
-            && refused(buy(&mut gold, &mut book, BEGUN, CUSTOMER, 1), 32)
-            && refused(sell(&mut silver, &mut book, BEGUN, CUSTOMER, 1), 32)
+        taken(
+            tender(Side::Buy, &mut gold, &mut book, BEGUN, CUSTOMER, 10),
+            0,
+            10,
+        ) && taken(
+            tender(Side::Sell, &mut silver, &mut book, BEGUN, CUSTOMER, 1),
+            0,
+            1,
+        ) && holds(&book, CUSTOMER, 0, 75_000)
+            && refused(
+                tender(Side::Buy, &mut gold, &mut book, BEGUN, CUSTOMER, 1),
+                32,
+            )
+            && refused(
+                tender(Side::Sell, &mut silver, &mut book, BEGUN, CUSTOMER, 1),
+                32,
+            )
             && stands(
                 gold.reduce(&mut book, BEGUN, CUSTOMER, 0, Lots(2)),
                 Stage::Market,
                 100,
             )
-            && refused(sell(&mut silver, &mut book, BEGUN, CUSTOMER, 1), 32)
+            && refused(
+                tender(Side::Sell, &mut silver, &mut book, BEGUN, CUSTOMER, 1),
+                32,
+            )
             && stands(
                 gold.reduce(&mut book, BEGUN, CUSTOMER, 0, Lots(1)),
                 Stage::Market,
                 100,
             )
-            && taken(sell(&mut silver, &mut book, BEGUN, CUSTOMER, 1), 1, 1)
+            && taken(
+                tender(Side::Sell, &mut silver, &mut book, BEGUN, CUSTOMER, 1),
+                1,
+                1,
+            )
             && holds(&book, CUSTOMER, 3_000, 72_000),
     )
 }
@@ -42,10 +60,10 @@ fn what_one_freezes_the_other_cannot(heap: Global) -> Option<bool> {
 fn a_measure_releases_its_own_session_only(heap: Global) -> Option<bool> {
     let mut gold = gold(heap, 100)?;
     let mut silver = silver(heap, 100)?;
-    let mut book = bank_line_book(heap, &[bank_line(75_000, 0)])?;
-    let drawn = taken(buy(&mut gold, &mut book, BEGUN, 0, 10), 0, 10)
-        && taken(buy(&mut silver, &mut book, BEGUN, 0, 1), 0, 1)
-        && refused(buy(&mut silver, &mut book, BEGUN, 0, 4), 32);
+    let mut book = book_of(heap, &[bank_line(75_000, 0)])?;
+    let drawn = taken(tender(Side::Buy, &mut gold, &mut book, BEGUN, 0, 10), 0, 10)
+        && taken(tender(Side::Buy, &mut silver, &mut book, BEGUN, 0, 1), 0, 1)
+        && refused(tender(Side::Buy, &mut silver, &mut book, BEGUN, 0, 4), 32);
     let Suspended { mut session, order } = suspend(gold, BEGUN, 100)?;
     let answer = order.announce(&mut session, &mut book, BEGUN, Ticks(100));
     let (_, announced) = spent(session, answer)?;
@@ -53,21 +71,20 @@ fn a_measure_releases_its_own_session_only(heap: Global) -> Option<bool> {
         drawn
             && is_at(announced, Stage::Announced, 100)
             && holds(&book, 0, 60_000, 15_000)
-            && taken(buy(&mut silver, &mut book, BEGUN, 0, 4), 1, 4)
+            && taken(tender(Side::Buy, &mut silver, &mut book, BEGUN, 0, 4), 1, 4)
             && holds(&book, 0, 0, 75_000),
     )
 }
 
 /// Plays the trials of this file.
-pub fn play(rt: &HostRuntime, heap: Global, tally: &mut Tally) -> anyhow::Result<()> {
-    tally.note(
-        rt,
+// call by call: a table of the trials would be function pointers that are handed out
+pub fn play(tally: &mut Tally) -> anyhow::Result<()> {
+    tally.play(
         "what_one_freezes_the_other_cannot",
-        what_one_freezes_the_other_cannot(heap),
+        what_one_freezes_the_other_cannot,
     )?;
-    tally.note(
-        rt,
+    tally.play(
         "a_measure_releases_its_own_session_only",
-        a_measure_releases_its_own_session_only(heap),
+        a_measure_releases_its_own_session_only,
     )
 }

@@ -17,10 +17,9 @@ use std::alloc::Global;
 fn refusal(heap: Global, time: u32, previous: u32, limit: usize, rows: &[OpenRow]) -> Option<u32> {
     let policy = ByTurn { start: 5 };
     let rows = Rows::Typed(rows);
-    match Session::<Shau, ByTurn>::open(heap, time, Ticks(previous), &rows, limit, policy) {
-        Err(RefusedOpening { fault, policy }) => (policy.start == 5).then_some(fault.number()),
-        Ok(_) => None,
-    }
+    let opened = Session::<Shau, ByTurn>::open(heap, time, Ticks(previous), &rows, limit, policy);
+    let RefusedOpening { fault, policy } = opened.err()?;
+    (policy.start == 5).then_some(fault.number())
 }
 
 /// The checks of an opening in their order, each with all later ones failing too: the time, the previous price, the line
@@ -56,15 +55,14 @@ fn a_beginning_at_executed_prices(heap: Global) -> Option<bool> {
 }
 
 /// Plays the trials of this file.
-pub fn play(rt: &HostRuntime, heap: Global, tally: &mut Tally) -> anyhow::Result<()> {
-    tally.note(
-        rt,
+// call by call: a table of the trials would be function pointers that are handed out
+pub fn play(tally: &mut Tally) -> anyhow::Result<()> {
+    tally.play(
         "a_refused_opening_hands_its_policy_back",
-        a_refused_opening_hands_its_policy_back(heap),
+        a_refused_opening_hands_its_policy_back,
     )?;
-    tally.note(
-        rt,
+    tally.play(
         "a_beginning_at_executed_prices",
-        a_beginning_at_executed_prices(heap),
+        a_beginning_at_executed_prices,
     )
 }

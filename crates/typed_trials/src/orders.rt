@@ -1,14 +1,15 @@
 //! Measures that are refused: the suspension order comes back each time, until one is accepted.
 
 use crate::expected::{holds, is_at, refused, taken};
-use crate::setup::{
-    BEGUN, CUSTOMER, bank_line, bank_line_book, buy, cash_book, free, sell, silver,
-};
+use crate::setup::{BEGUN, CUSTOMER, bank_line, book_of, free, silver, tender};
 use crate::suspension::{Suspended, handed_back, spent, suspend};
 use crate::tally::Tally;
+use books::balance::Balance;
+use books::bank_line::BankLine;
 use books::book::MarginBook;
 use contracts::shag::Shag;
 use measures::{Fen, Lots, Ticks};
+use rounds::sides::Side;
 use rounds::stages::Stage;
 use session::session::Session;
 use sharing::table_order::TableOrder;
@@ -21,15 +22,18 @@ fn suspended_silver<B: MarginBook>(
     book: &mut B,
 ) -> Option<Suspended<Shag, TableOrder>> {
     let mut session = silver(heap, 100)?;
-    let ready = taken(buy(&mut session, book, BEGUN, CUSTOMER, 10), 0, 10)
-        && taken(sell(&mut session, book, BEGUN, 1, 4), 1, 4);
+    let ready = taken(
+        tender(Side::Buy, &mut session, book, BEGUN, CUSTOMER, 10),
+        0,
+        10,
+    ) && taken(tender(Side::Sell, &mut session, book, BEGUN, 1, 4), 1, 4);
     suspend(ready.then_some(session)?, BEGUN + 5, 100)
 }
 
 /// Another hand releases a fen of the customer's: both measures are refused, and row 1's money is not released either. Once
 /// the fen is frozen again, the session is reissued at 90; a lot then asks 90 × 150 = 13,500 fen.
 fn a_reissue_after_another_hand(heap: Global) -> Option<bool> {
-    let mut book = cash_book(heap, &[free(0), free(60_000), free(0), free(150_000)])?;
+    let mut book = book_of(heap, &[free(0), free(60_000), free(0), free(150_000)])?;
     let Suspended { mut session, order } = suspended_silver(heap, &mut book)?;
     let released = book.release(CUSTOMER, Fen(1)).is_ok();
     let answer = order.reissue(&mut session, &mut book, BEGUN + 7, Ticks(90));
@@ -56,7 +60,11 @@ fn a_reissue_after_another_hand(heap: Global) -> Option<bool> {
                 session.reduce(&mut book, BEGUN + 6, CUSTOMER, 0, Lots(1)),
                 28,
             )
-            && taken(buy(&mut session, &mut book, BEGUN + 6, CUSTOMER, 1), 2, 1)
+            && taken(
+                tender(Side::Buy, &mut session, &mut book, BEGUN + 6, CUSTOMER, 1),
+                2,
+                1,
+            )
             && holds(&book, CUSTOMER, 136_500, 13_500),
     )
 }
@@ -66,8 +74,8 @@ fn a_reissue_after_another_hand(heap: Global) -> Option<bool> {
 fn an_announcement_after_another_hand(heap: Global) -> Option<bool> {
     let none = bank_line(0, 0);
     let lines = [none, bank_line(60_000, 0), none, bank_line(150_000, 0)];
-    let mut book = bank_line_book(heap, &lines)?;
-    let mut empty = bank_line_book(heap, &[])?;
+    let mut book = book_of(heap, &lines)?;
+    let mut empty = book_of::<BankLine>(heap, &[])?;
     let Suspended { mut session, order } = suspended_silver(heap, &mut book)?;
     let answer = order.reissue(&mut session, &mut empty, BEGUN + 5, Ticks(95));
     let (unknown, order) = handed_back(answer, 31)?;
@@ -113,10 +121,14 @@ fn in_the_last_round<B: MarginBook>(
 
 /// In round 64 a reissue is refused 33 before the book is asked; an announcement asks it (31). A lot is 15,000 fen.
 fn the_last_round_before_the_book(heap: Global) -> Option<bool> {
-    let mut book = cash_book(heap, &[free(15_000)])?;
-    let mut empty = cash_book(heap, &[])?;
+    let mut book = book_of(heap, &[free(15_000)])?;
+    let mut empty = book_of::<Balance>(heap, &[])?;
     let mut session = in_the_last_round(heap, &mut book)?;
-    let tendered = taken(sell(&mut session, &mut book, BEGUN, 0, 1), 0, 1);
+    let tendered = taken(
+        tender(Side::Sell, &mut session, &mut book, BEGUN, 0, 1),
+        0,
+        1,
+    );
     let Suspended { mut session, order } = suspend(session, BEGUN, 100)?;
     let answer = order.reissue(&mut session, &mut empty, BEGUN, Ticks(100));
     let (last, order) = handed_back(answer, 33)?;
@@ -136,20 +148,15 @@ fn the_last_round_before_the_book(heap: Global) -> Option<bool> {
 }
 
 /// Plays the trials of this file.
-pub fn play(rt: &HostRuntime, heap: Global, tally: &mut Tally) -> anyhow::Result<()> {
-    tally.note(
-        rt,
-        "a_reissue_after_another_hand",
-        a_reissue_after_another_hand(heap),
-    )?;
-    tally.note(
-        rt,
+// call by call: a table of the trials would be function pointers that are handed out
+pub fn play(tally: &mut Tally) -> anyhow::Result<()> {
+    tally.play("a_reissue_after_another_hand", a_reissue_after_another_hand)?;
+    tally.play(
         "an_announcement_after_another_hand",
-        an_announcement_after_another_hand(heap),
+        an_announcement_after_another_hand,
     )?;
-    tally.note(
-        rt,
+    tally.play(
         "the_last_round_before_the_book",
-        the_last_round_before_the_book(heap),
+        the_last_round_before_the_book,
     )
 }

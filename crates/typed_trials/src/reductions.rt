@@ -1,10 +1,12 @@
 //! Reductions over a book that another hand writes to.
 
 use crate::expected::{holds, is_at, refused, stands, taken};
-use crate::setup::{BEGUN, CLOSED, CUSTOMER, ROUND_OVER, buy, cash_book, free, gold, sell, silver};
+use crate::setup::{BEGUN, CLOSED, CUSTOMER, ROUND_OVER, book_of, free, gold, silver, tender};
 use crate::tally::Tally;
+use books::balance::Balance;
 use books::book::MarginBook;
 use measures::{Fen, Lots};
+use rounds::sides::Side;
 use rounds::stages::Stage;
 use std::alloc::Global;
 
@@ -12,10 +14,13 @@ use std::alloc::Global;
 /// than that frozen, and then freezes it again.
 fn a_reduction_after_another_hand(heap: Global) -> Option<bool> {
     let mut session = silver(heap, 100)?;
-    let mut book = cash_book(heap, &[free(0), free(0), free(0), free(150_000)])?;
+    let mut book = book_of(heap, &[free(0), free(0), free(0), free(150_000)])?;
     Some(
-        taken(buy(&mut session, &mut book, BEGUN, CUSTOMER, 10), 0, 10)
-            && book.release(CUSTOMER, Fen(90_001)).is_ok()
+        taken(
+            tender(Side::Buy, &mut session, &mut book, BEGUN, CUSTOMER, 10),
+            0,
+            10,
+        ) && book.release(CUSTOMER, Fen(90_001)).is_ok()
             && refused(
                 session.reduce(&mut book, BEGUN + 2, CUSTOMER, 0, Lots(4)),
                 32,
@@ -39,11 +44,14 @@ fn a_reduction_after_another_hand(heap: Global) -> Option<bool> {
 /// The reduction is lent another book than the tender was, one without accounts.
 fn a_reduction_in_an_empty_book(heap: Global) -> Option<bool> {
     let mut session = silver(heap, 100)?;
-    let mut book = cash_book(heap, &[free(15_000)])?;
-    let mut empty = cash_book(heap, &[])?;
+    let mut book = book_of(heap, &[free(15_000)])?;
+    let mut empty = book_of::<Balance>(heap, &[])?;
     Some(
-        taken(sell(&mut session, &mut book, BEGUN, 0, 1), 0, 1)
-            && refused(session.reduce(&mut empty, BEGUN, 0, 0, Lots(1)), 31)
+        taken(
+            tender(Side::Sell, &mut session, &mut book, BEGUN, 0, 1),
+            0,
+            1,
+        ) && refused(session.reduce(&mut empty, BEGUN, 0, 0, Lots(1)), 31)
             && is_at(session.standing(), Stage::Market, 100)
             && stands(
                 session.reduce(&mut book, BEGUN, 0, 0, Lots(1)),
@@ -58,14 +66,24 @@ fn a_reduction_in_an_empty_book(heap: Global) -> Option<bool> {
 /// more at 110: 10 × 110 × 60 = 66,000 fen. Reducing these releases so much; the line of round 1 cannot be reduced.
 fn a_reduction_at_the_tendered_price(heap: Global) -> Option<bool> {
     let mut session = gold(heap, 100)?;
-    let mut book = cash_book(heap, &[free(0), free(366_000), free(0), free(3_000_000)])?;
+    let mut book = book_of(heap, &[free(0), free(366_000), free(0), free(3_000_000)])?;
     Some(
-        taken(buy(&mut session, &mut book, BEGUN, CUSTOMER, 500), 0, 500)
-            && taken(sell(&mut session, &mut book, BEGUN, 1, 50), 1, 50)
-            && stands(session.close(&mut book, CLOSED), Stage::Supplementary, 100)
+        taken(
+            tender(Side::Buy, &mut session, &mut book, BEGUN, CUSTOMER, 500),
+            0,
+            500,
+        ) && taken(
+            tender(Side::Sell, &mut session, &mut book, BEGUN, 1, 50),
+            1,
+            50,
+        ) && stands(session.close(&mut book, CLOSED), Stage::Supplementary, 100)
             && stands(session.close(&mut book, ROUND_OVER), Stage::Market, 110)
             && holds(&book, CUSTOMER, 3_000_000, 0)
-            && taken(sell(&mut session, &mut book, ROUND_OVER, 1, 10), 2, 10)
+            && taken(
+                tender(Side::Sell, &mut session, &mut book, ROUND_OVER, 1, 10),
+                2,
+                10,
+            )
             && holds(&book, 1, 0, 366_000)
             && refused(session.reduce(&mut book, ROUND_OVER, 1, 1, Lots(10)), 28)
             && stands(
@@ -78,20 +96,15 @@ fn a_reduction_at_the_tendered_price(heap: Global) -> Option<bool> {
 }
 
 /// Plays the trials of this file.
-pub fn play(rt: &HostRuntime, heap: Global, tally: &mut Tally) -> anyhow::Result<()> {
-    tally.note(
-        rt,
+// call by call: a table of the trials would be function pointers that are handed out
+pub fn play(tally: &mut Tally) -> anyhow::Result<()> {
+    tally.play(
         "a_reduction_after_another_hand",
-        a_reduction_after_another_hand(heap),
+        a_reduction_after_another_hand,
     )?;
-    tally.note(
-        rt,
-        "a_reduction_in_an_empty_book",
-        a_reduction_in_an_empty_book(heap),
-    )?;
-    tally.note(
-        rt,
+    tally.play("a_reduction_in_an_empty_book", a_reduction_in_an_empty_book)?;
+    tally.play(
         "a_reduction_at_the_tendered_price",
-        a_reduction_at_the_tendered_price(heap),
+        a_reduction_at_the_tendered_price,
     )
 }

@@ -2,9 +2,10 @@
 
 use crate::expected::stands;
 use books::balance::Balance;
-use books::bank_line::{BankLine, BankLineBook};
+use books::bank_line::BankLine;
 use books::book::MarginBook;
-use books::cash::CashBook;
+use books::record::AccountRecord;
+use books::record_book::RecordBook;
 use contracts::quoted::QuotedContract;
 use contracts::shag::Shag;
 use contracts::shau::Shau;
@@ -15,7 +16,6 @@ use rounds::answers::Tendered;
 use rounds::faults::SessionFault;
 use rounds::sides::Side;
 use rounds::stages::Stage;
-use session::open::RefusedOpening;
 use session::session::Session;
 use sharing::by_turn::ByTurn;
 use sharing::table_order::TableOrder;
@@ -70,22 +70,15 @@ pub fn quoting<C, P: Drop>(
     limit: usize,
     policy: P,
 ) -> Option<Session<C, P>> {
-    match Session::open(
+    Session::open(
         heap,
         OPENED,
         Ticks(price),
         &Rows::Typed(&ROSTER),
         limit,
         policy,
-    ) {
-        Ok(session) => Some(session),
-        Err(
-            RefusedOpening {
-                fault: _,
-                policy: _,
-            },
-        ) => None,
-    }
+    )
+    .ok()
 }
 
 /// A session in the market period of round 1.
@@ -114,26 +107,16 @@ pub fn silver(heap: Global, price: u32) -> Option<Session<Shag, TableOrder>> {
     market(heap, price, LIMIT, TableOrder)
 }
 
-/// A row buys lots.
-pub fn buy<C: QuotedContract, P, B: MarginBook>(
+/// A row buys or sells lots.
+pub fn tender<C: QuotedContract, P, B: MarginBook>(
+    side: Side,
     session: &mut Session<C, P>,
     book: &mut B,
     time: u32,
     row: u32,
     lots: u32,
 ) -> Result<Tendered, SessionFault> {
-    session.tender(book, time, row, Side::Buy, Lots(lots))
-}
-
-/// A row sells lots.
-pub fn sell<C: QuotedContract, P, B: MarginBook>(
-    session: &mut Session<C, P>,
-    book: &mut B,
-    time: u32,
-    row: u32,
-    lots: u32,
-) -> Result<Tendered, SessionFault> {
-    session.tender(book, time, row, Side::Sell, Lots(lots))
+    session.tender(book, time, row, side, Lots(lots))
 }
 
 /// What an account holds.
@@ -149,10 +132,10 @@ pub fn free(sum: u64) -> Balance {
     held(sum, 0)
 }
 
-/// A cash book of these accounts.
-pub fn cash_book(heap: Global, accounts: &[Balance]) -> Option<CashBook> {
+/// A book of these accounts.
+pub fn book_of<R: AccountRecord>(heap: Global, accounts: &[R]) -> Option<RecordBook<R>> {
     let accounts = accounts.to_vec(heap).ok()?;
-    Some(CashBook::new(accounts))
+    Some(RecordBook::new(accounts))
 }
 
 /// A bank's line, and what is drawn on it.
@@ -161,10 +144,4 @@ pub fn bank_line(line: u64, drawn: u64) -> BankLine {
         line: Fen(line),
         drawn: Fen(drawn),
     }
-}
-
-/// A bank-line book of these accounts.
-pub fn bank_line_book(heap: Global, accounts: &[BankLine]) -> Option<BankLineBook> {
-    let accounts = accounts.to_vec(heap).ok()?;
-    Some(BankLineBook::new(accounts))
 }

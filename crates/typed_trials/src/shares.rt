@@ -1,7 +1,7 @@
 //! How the Fixing Members share the excess of a fix.
 
 use crate::expected::{fill, filled, stands, taken};
-use crate::setup::{BEGUN, CLOSED, CUSTOMER, LIMIT, ROUND_OVER, cash_book, free, market};
+use crate::setup::{BEGUN, CLOSED, CUSTOMER, LIMIT, ROUND_OVER, book_of, free, market};
 use crate::tally::Tally;
 use contracts::shau::Shau;
 use measures::Lots;
@@ -16,7 +16,7 @@ use std::alloc::Global;
 /// Gold fixed at 100, after the customer alone tendered five lots: 5 × 100 × 60 = 30,000 fen. Three members share them.
 fn fixed<P: SharingPolicy + Drop>(heap: Global, policy: P, side: Side) -> Option<Session<Shau, P>> {
     let mut session = market(heap, 100, LIMIT, policy)?;
-    let mut book = cash_book(heap, &[free(0), free(0), free(0), free(30_000)])?;
+    let mut book = book_of(heap, &[free(0), free(0), free(0), free(30_000)])?;
     let ready = taken(
         session.tender(&mut book, BEGUN, CUSTOMER, side, Lots(5)),
         0,
@@ -78,8 +78,9 @@ fn in_table_order(heap: Global) -> Option<bool> {
 }
 
 /// Plays the trials of this file.
-pub fn play(rt: &HostRuntime, heap: Global, tally: &mut Tally) -> anyhow::Result<()> {
-    tally.note(rt, "by_turn_from_2", by_turn_from_2(heap))?;
-    tally.note(rt, "by_turn_from_31_and_32", by_turn_from_31_and_32(heap))?;
-    tally.note(rt, "in_table_order", in_table_order(heap))
+// call by call: a table of the trials would be function pointers that are handed out
+pub fn play(tally: &mut Tally) -> anyhow::Result<()> {
+    tally.play("by_turn_from_2", by_turn_from_2)?;
+    tally.play("by_turn_from_31_and_32", by_turn_from_31_and_32)?;
+    tally.play("in_table_order", in_table_order)
 }

@@ -2,13 +2,15 @@
 
 use crate::expected::{fill, filled, holds, is_at, refused, stands, taken};
 use crate::setup::{
-    BEGUN, CLOSED, CUSTOMER, LIMIT, ROUND_OVER, buy, cash_book, free, quoting, sell, silver,
+    BEGUN, CLOSED, CUSTOMER, LIMIT, ROUND_OVER, book_of, free, quoting, silver, tender,
 };
 use crate::suspension::{Suspended, spent, suspend};
 use crate::tally::Tally;
 use contracts::shau::Shau;
-use measures::Ticks;
+use lines::fills::Fill;
+use measures::{Lots, Ticks};
 use messages::prices::Prices;
+use rounds::sides::Side;
 use rounds::stages::Stage;
 use session::session::Session;
 use sharing::by_turn::ByTurn;
@@ -18,11 +20,15 @@ use std::alloc::Global;
 /// 10, so the session halts.
 fn no_sheet_without_a_fix(heap: Global) -> Option<bool> {
     let mut session: Session<Shau, ByTurn> = quoting(heap, 10, LIMIT, ByTurn { start: 0 })?;
-    let mut book = cash_book(heap, &[free(240_600)])?;
+    let mut book = book_of(heap, &[free(240_600)])?;
     let halted = refused(session.sheet(), 20)
         && stands(session.begin(BEGUN, &Prices::Typed(&[])), Stage::Market, 10)
         && refused(session.sheet(), 20)
-        && taken(sell(&mut session, &mut book, BEGUN, 0, 401), 0, 401)
+        && taken(
+            tender(Side::Sell, &mut session, &mut book, BEGUN, 0, 401),
+            0,
+            401,
+        )
         && stands(session.close(&mut book, CLOSED), Stage::Supplementary, 10)
         && refused(session.sheet(), 20)
         && stands(session.close(&mut book, ROUND_OVER), Stage::Halted, 10)
@@ -34,17 +40,22 @@ fn no_sheet_without_a_fix(heap: Global) -> Option<bool> {
     Some(halted && unfixed && is_at(announced, Stage::Announced, 7) && refused(session.sheet(), 20))
 }
 
+/// The lots of all fills on one side.
+fn sum<F: Fn(&Fill) -> Lots>(fills: &[Fill], side: F) -> u32
+    requires { F.IsAlwaysCallable side }
+{
+    fills
+        .iter()
+        .fold(0, |lots: u32, fill| lots.saturating_add(side(fill).0))
+}
+
 /// Whether a session has a sheet with a fill a row, and as many lots bought as sold.
 fn is_level<C, P>(session: &Session<C, P>) -> bool {
     let Ok(sheet) = session.sheet() else {
         return false;
     };
-    let mut bought: u32 = 0;
-    let mut sold: u32 = 0;
-    for fill in sheet.fills {
-        bought = bought.saturating_add(fill.bought.0);
-        sold = sold.saturating_add(fill.sold.0);
-    }
+    let bought = sum(sheet.fills, |fill| fill.bought);
+    let sold = sum(sheet.fills, |fill| fill.sold);
     sheet.fills.len() == session.row_count() && bought == sold
 }
 
@@ -53,12 +64,22 @@ fn is_level<C, P>(session: &Session<C, P>) -> bool {
 /// freeze nothing.
 fn the_sheet_of_a_fix(heap: Global) -> Option<bool> {
     let mut session = silver(heap, 100)?;
-    let mut book = cash_book(heap, &[free(90_000), free(90_000), free(0), free(90_000)])?;
+    let mut book = book_of(heap, &[free(90_000), free(90_000), free(0), free(90_000)])?;
     Some(
-        taken(buy(&mut session, &mut book, BEGUN, CUSTOMER, 6), 0, 6)
-            && taken(sell(&mut session, &mut book, BEGUN, 0, 1), 1, 1)
-            && stands(session.close(&mut book, CLOSED), Stage::Supplementary, 100)
-            && taken(sell(&mut session, &mut book, CLOSED, 1, 2), 2, 2)
+        taken(
+            tender(Side::Buy, &mut session, &mut book, BEGUN, CUSTOMER, 6),
+            0,
+            6,
+        ) && taken(
+            tender(Side::Sell, &mut session, &mut book, BEGUN, 0, 1),
+            1,
+            1,
+        ) && stands(session.close(&mut book, CLOSED), Stage::Supplementary, 100)
+            && taken(
+                tender(Side::Sell, &mut session, &mut book, CLOSED, 1, 2),
+                2,
+                2,
+            )
             && stands(session.close(&mut book, ROUND_OVER), Stage::Fixed, 100)
             && filled(
                 &session,
@@ -75,7 +96,8 @@ fn the_sheet_of_a_fix(heap: Global) -> Option<bool> {
 }
 
 /// Plays the trials of this file.
-pub fn play(rt: &HostRuntime, heap: Global, tally: &mut Tally) -> anyhow::Result<()> {
-    tally.note(rt, "no_sheet_without_a_fix", no_sheet_without_a_fix(heap))?;
-    tally.note(rt, "the_sheet_of_a_fix", the_sheet_of_a_fix(heap))
+// call by call: a table of the trials would be function pointers that are handed out
+pub fn play(tally: &mut Tally) -> anyhow::Result<()> {
+    tally.play("no_sheet_without_a_fix", no_sheet_without_a_fix)?;
+    tally.play("the_sheet_of_a_fix", the_sheet_of_a_fix)
 }

@@ -32,10 +32,8 @@ pub fn handed_back(
     answer: Result<Standing, RefusedMeasure>,
     number: u32,
 ) -> Option<(bool, SuspensionOrder)> {
-    match answer {
-        Ok(_) => None,
-        Err(RefusedMeasure { fault, order }) => Some((fault.number() == number, order)),
-    }
+    let RefusedMeasure { fault, order } = answer.err()?;
+    Some((fault.number() == number, order))
 }
 
 /// The session after an accepted measure, and the answer; nothing after a refused one, whose order ends the session.

@@ -36,6 +36,3 @@ loop-line-preserved c =
 
 pub loop-line-init : goal.loop-line-init
 loop-line-init c = (refl, λ side k h. ap (filled_on side) (get_or-replicate 256 k no_fill no_fill h) ∙ filled_none side)
-
-pub returns : goal.returns
-returns c = λ side k h. c.loop-line.invariant.1 side k (omega (arith, c.loop-line.invariant.0)) ∙ ap (λ (ls : List Line). of_row (lots_on side) ls k) (take_all c.loop-line.line-index c.args.lines.now (omega arith))

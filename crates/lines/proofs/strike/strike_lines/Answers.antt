@@ -6,6 +6,3 @@ use Rattle.lines.proofs.strike.strike_lines.Goals as goal
 
 pub loop-line-preserved : goal.loop-line-preserved
 loop-line-preserved c = search (rules, map_over_more (struck c.args.which))
-
-pub returns : goal.returns
-returns c = search (rules, take_all, drop_all)

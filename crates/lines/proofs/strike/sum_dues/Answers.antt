@@ -9,8 +9,8 @@ use Rattle.lines.proofs.Totals.{lots-at, price-at, dues-all, row_at}
 use Rattle.lines.proofs.strike.sum_dues.Given as given
 use Rattle.lines.proofs.strike.sum_dues.Goals as goal
 
-high : (g : given.Over) → g.C.QuotedContract.margin ≤ 1500
-high g = omega (arith, g.met.C.QuotedContract.margin_high, g.met.C.QuotedContract.worth_high)
+high : (g : given.Over) → g.C.QuotedContract.MARGIN.0 ≤ 1500
+high g = omega (arith, g.C.QuotedContract.margin_high, g.C.QuotedContract.worth_high)
 
 pub due-due-requires : goal.due-due-requires
 due-due-requires g c = search (rules, lots-at, price-at)
@@ -22,22 +22,10 @@ pub overflow_add-dues : goal.overflow_add-dues
 overflow_add-dues g c =
     let l : Line = get_or c.args.lines.now c.loop-line.line-index no_line in
     let w : l.row < length c.loop-line.dues = omega (arith, row_at 256 c.args.lines.now c.loop-line.line-index no_line c.requires.sound (omega arith)) in
-    omega (arith, c.loop-line.invariant.1 l.row w, c.due-due.ensures, row-next-le (line_due g.C.QuotedContract.margin c.args.which) 600000000000000 c.args.lines.now c.loop-line.line-index no_line (dues-all 256 g.C.QuotedContract.margin c.args.which (high g) c.args.lines.now c.requires.sound) (omega arith))
+    omega (arith, c.loop-line.invariant.1 l.row w, c.due-due.ensures, row-next-le (line_due g.C.QuotedContract.MARGIN.0 c.args.which) 600000000000000 c.args.lines.now c.loop-line.line-index no_line (dues-all 256 g.C.QuotedContract.MARGIN.0 c.args.which (high g) c.args.lines.now c.requires.sound) (omega arith))
 
 pub bounds-dues-row-in-loop-line : goal.bounds-dues-row-in-loop-line
 bounds-dues-row-in-loop-line g c = omega (arith, row_at 256 c.args.lines.now c.loop-line.line-index no_line c.requires.sound (omega arith))
 
-pub loop-line-preserved : goal.loop-line-preserved
-loop-line-preserved g c =
-    let l : Line = get_or c.args.lines.now c.loop-line.line-index no_line in
-    let w : l.row < length c.loop-line.dues = omega (arith, row_at 256 c.args.lines.now c.loop-line.line-index no_line c.requires.sound (omega arith)) in (
-      simp length-set c.loop-line.invariant.0,
-      λ k b. row_more (λ (f : Fen). f.0) no_fen (line_due g.C.QuotedContract.margin c.args.which) c.args.lines.now c.loop-line.line-index no_line c.loop-line.dues (record { 0 = due_in c.loop-line.dues l.row + c.due-due.result.0 })
-          (omega arith) w (ap (λ n. due_in c.loop-line.dues l.row + n) c.due-due.ensures) c.loop-line.invariant.1 k b,
-    )
-
 pub loop-line-init : goal.loop-line-init
 loop-line-init g c = (refl, λ k h. ap (λ (f : Fen). f.0) (get_or-replicate 256 k no_fen no_fen h))
-
-pub returns : goal.returns
-returns g c = λ k h. c.loop-line.invariant.1 k (omega (arith, c.loop-line.invariant.0)) ∙ ap (λ (ls : List Line). due_to g.C.QuotedContract.margin c.args.which ls k) (take_all c.loop-line.line-index c.args.lines.now (omega arith))

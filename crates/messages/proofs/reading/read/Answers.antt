@@ -7,16 +7,8 @@ use Rattle.messages.proofs.reading.read.Goals as goal
 
 pub call_of-requires : goal.call_of-requires
 call_of-requires c =
-    fills-at c.in-Some.verb c.again.result.now c.first.result.now c.args.message.now
+    fills-at c.in_ok-verb.verb c.again.result.now c.first.result.now c.args.message.now
     c.again.ensures c.first.ensures c.in_ok-check.ensures
-
-pub returns-in_default : goal.returns-in_default
-unfolding reading
-returns-in_default c = search rules
-
-pub returns-in_err-check : goal.returns-in_err-check
-unfolding reading
-returns-in_err-check c = search rules
 
 pub returns : goal.returns
 unfolding reading

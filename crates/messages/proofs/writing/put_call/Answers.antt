@@ -8,4 +8,4 @@ put-requires c = counted-prices (prices_of c.in-Begin.prices)
 
 pub put-requires-in-Open : goal.put-requires-in-Open
 put-requires-in-Open c =
-    counted-opened c.in-Open.metal c.opens.result 0 c.in-Open.time c.in-Open.price.0 (rows_of c.in-Open.rows) c.opens.ensures
+    counted-opened c.in-Open.metal c.from.result 0 c.in-Open.time c.in-Open.price.0 (rows_of c.in-Open.rows) c.from.ensures

@@ -4,9 +4,6 @@ use Rattle.participants.specs.declared.rows.Listed.{Listed}
 use Rattle.participants.proofs.Seated.{rows_more, rows-stop}
 use Rattle.participants.proofs.enrolment.check_rows.Goals as goal
 
-pub loop-row-preserved : goal.loop-row-preserved
-loop-row-preserved g c = search (rules, rows_more)
-
 pub returns-in_err-check_participant : goal.returns-in_err-check_participant
 returns-in_err-check_participant g c =
     let ls : List Listed = g.R.Roster.listed c.args.roster.now in

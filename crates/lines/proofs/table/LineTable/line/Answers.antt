@@ -3,5 +3,5 @@ use Rattle.std.proofs.lemmas.List.{get_or_read}
 use Rattle.lines.proofs.Totals.{lots-at, price-at}
 use Rattle.lines.proofs.table.LineTable.line.Goals as goal
 
-pub returns-then-number-len : goal.returns-then-number-len
-returns-then-number-len c = search (rules, get_or_read, lots-at, price-at)
+pub returns : goal.returns
+returns c = search (rules, get_or_read, lots-at, price-at)

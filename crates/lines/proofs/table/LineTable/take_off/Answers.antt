@@ -5,18 +5,6 @@ use Rattle.lines.specs.declared.line.Line.{Line}
 use Rattle.lines.proofs.Totals.{lots-le-read, standing-read, lawful-reduced, reduced-fits}
 use Rattle.lines.proofs.table.LineTable.take_off.Goals as goal
 
-pub overflow_sub-self : goal.overflow_sub-self
-overflow_sub-self c = let lt : c.args.line < length (vec_items c.args.self.now.lines) = omega arith in
-    omega (arith, lots-le-read Buy (vec_items c.args.self.now.lines) c.args.line c.index.result.now lt c.index.ensures)
-
-pub overflow_sub-self-2 : goal.overflow_sub-self-2
-overflow_sub-self-2 c = let lt : c.args.line < length (vec_items c.args.self.now.lines) = omega arith in
-    omega (arith, lots-le-read Sell (vec_items c.args.self.now.lines) c.args.line c.index.result.now lt c.index.ensures)
-
-pub overflow_add-self : goal.overflow_add-self
-overflow_add-self c = let lt : c.args.line < length (vec_items c.args.self.now.lines) = omega arith in
-    omega (arith, ap (lots_on Buy) c.less-new.ensures, reduced-fits c.args.self.now.rows Buy (vec_items c.args.self.now.lines) c.args.line c.index.result.now c.args.lots.0 c.args.self.now.sound (omega arith) lt c.index.ensures)
-
 pub overflow_add-self-2 : goal.overflow_add-self-2
 overflow_add-self-2 c = let lt : c.args.line < length (vec_items c.args.self.now.lines) = omega arith in
     omega (arith, ap (lots_on Sell) c.less-new.ensures, reduced-fits c.args.self.now.rows Sell (vec_items c.args.self.now.lines) c.args.line c.index.result.now c.args.lots.0 c.args.self.now.sound (omega arith) lt c.index.ensures)

@@ -1,15 +1,14 @@
-use Rattle.std.proofs.Common.{length, ap, arith, rules}
-use Rattle.std.proofs.lemmas.List.{at_drop_all}
-use Rattle.messages.specs.Messages.{messages}
+use Rattle.std.proofs.Common.{ap, length, rules}
 use Rattle.messages.proofs.Cuts.{messages-cut}
 use Rattle.messages.proofs.reader.ReaderIterator.next.Goals as goal
 
-pub returns-then-start-self : goal.returns-then-start-self
-returns-then-start-self c =
-    record { steps = at_drop_all messages c.args.self.now.words.now c.args.self.now.place (omega arith); goes = search rules }
+pub returns-clause-steps : goal.returns-clause-steps
+returns-clause-steps c =
+    messages-cut c.args.self.now.rest.now c.in_ok-behind.field-0-0.now c.in_ok-behind.behind.now c.next_verb.result c.unwrap_or-end.result _ _
+    c.in_ok-behind.ensures.cases.0 c.next_verb.ensures c.unwrap_or-end.ensures c.split_at.ensures.front c.split_at.ensures.back
 
-pub returns : goal.returns
-returns c =
-    let m = messages-cut c.args.self.now.words.now c.args.self.now.place c.end_of-end.result (omega arith) c.end_of-end.ensures.end in
-    let fewer = ap length m in
-    record { steps = search rules; goes = search rules }
+pub returns-clause-goes : goal.returns-clause-goes
+returns-clause-goes c =
+    let cut = messages-cut c.args.self.now.rest.now c.in_ok-behind.field-0-0.now c.in_ok-behind.behind.now c.next_verb.result c.unwrap_or-end.result _ _
+    c.in_ok-behind.ensures.cases.0 c.next_verb.ensures c.unwrap_or-end.ensures c.split_at.ensures.front c.split_at.ensures.back in
+    let fewer = ap length cut in search rules

@@ -1,8 +1,5 @@
 use Rattle.std.proofs.Common.{rules}
 use Rattle.session.proofs.session.Session.close.Goals as goal
 
-pub returns-in-Market : goal.returns-in-Market
-returns-in-Market g c = let e = c.close_market.ensures (g.B.MarginBook.means c.args.book.now) in search rules
-
-pub returns-in_default : goal.returns-in_default
-returns-in_default g c = record { outcome = search rules; kept = c.close_supplementary.ensures.kept; moved = c.close_supplementary.ensures.moved }
+pub returns-in-Market-stage : goal.returns-in-Market-stage
+returns-in-Market-stage g c = let e = c.close_market.ensures (g.B.MarginBook.means c.args.book.now) in search rules
