@@ -1,5 +1,6 @@
 pub mod Answering
 pub mod Fronts
 pub mod Misplaced
+pub mod Sheets
 pub mod Unchanged
 pub mod Words
