@@ -74,6 +74,12 @@ pub sheet-level : (n : ℕ) (share : ℕ → ℕ) (rows : List Participant) (ls 
 unfolding fills_of
 sheet-level n share rows ls most few sound whole = subst Level (sym (take-map-range_with_len (fill_of share rows ls) 0 256 n most)) (level-of n share rows ls few sound whole)
 
+-- no fills are level
+pub level-none : (m n : ℕ) → Level (take m (replicate n no_fill))
+level-none zero n = refl
+level-none (suc m) zero = refl
+level-none (suc m) (suc n) = level-none m n
+
 pub in_bounds_lem : (n q : ℕ) → 1 ≤ n → n ≤ 32 → q ≤ 163840000 → in_bounds n q ≡ true
 in_bounds_lem n q a b c = grind (arith, nat_tests)
 

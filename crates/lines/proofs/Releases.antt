@@ -22,12 +22,29 @@ covers-stop m due k (suc n) e lt h f =
     (λ (p : (eqb k n ≡ false) × (k ≡ n → ⊥)). let q = p.1 in let l : k < n = omega arith in next-err (covers_all m due n) _ e (covers-stop m due k n e l h f))
     (eqb_tells k n)
 
+next-ok : (r s : Result (Unit {0}) BookFault) → next r s ≡ Ok tt → (r ≡ Ok tt) × (s ≡ Ok tt)
+next-ok (Ok u) s h = (refl, h)
+next-ok (Err e) s h = absurd (let z : ◌≡◌ {A = ℕ} 0 1 = cc in omega arith)
+
+-- a book that covers all that is due covers what is due to each account
+pub covers_at : (m : Accounts) (due : ℕ → ℕ) (k n : ℕ) → k < n → covers_all m due n ≡ Ok tt → covers (m k) (due k) ≡ Ok tt
+covers_at m due k zero lt h = absurd (omega arith)
+covers_at m due k (suc n) lt h = let p = next-ok (covers_all m due n) (covers (m n) (due n)) h in
+    ⊎_elim
+    (λ (q : (eqb k n ≡ true) × (k ≡ n)). let P : ℕ → Type 0 = λ j. covers (m j) (due j) ≡ Ok tt in subst P (sym q.1) p.1)
+    (λ (q : (eqb k n ≡ false) × (k ≡ n → ⊥)). let r = q.1 in let l : k < n = omega arith in covers_at m due k n l p.0)
+    (eqb_tells k n)
+
+-- a release to the accounts below k leaves account k
+pub untouched : (m : Accounts) (due : ℕ → ℕ) (k : ℕ) → released_all m due k k ≡ m k
+untouched m due k = grind (arith, nat_tests)
+
 -- dues that are the same below n cover and release the same
-covers-same : (m : Accounts) (f g : ℕ → ℕ) (n : ℕ) → ((k : ℕ) → k < n → f k ≡ g k) → covers_all m f n ≡ covers_all m g n
+pub covers-same : (m : Accounts) (f g : ℕ → ℕ) (n : ℕ) → ((k : ℕ) → k < n → f k ≡ g k) → covers_all m f n ≡ covers_all m g n
 covers-same m f g zero h = refl
 covers-same m f g (suc n) h = let r = covers-same m f g n (λ k l. h k (omega arith)) in let e = h n (omega arith) in cc
 
-released-same : (m : Accounts) (f g : ℕ → ℕ) (n : ℕ) → ((k : ℕ) → k < n → f k ≡ g k) → released_all m f n ≡ released_all m g n
+pub released-same : (m : Accounts) (f g : ℕ → ℕ) (n : ℕ) → ((k : ℕ) → k < n → f k ≡ g k) → released_all m f n ≡ released_all m g n
 released-same m f g n h = fun_ext (λ a. ⊎_elim
     (λ (p : (leb (suc a) n ≡ true) × (suc a ≤ n)). let e = h a p.1 in let t = p.0 in cc)
     (λ (p : (leb (suc a) n ≡ false) × (n < suc a)). let t = p.0 in cc)

@@ -51,3 +51,16 @@ rejoins (w ∷ []) = refl
 rejoins (w ∷ x ∷ ws) =
     elim (is_kind Verb x) as (λ t. flat_map (λ m. m) (cond t ((w ∷ []) ∷ messages (x ∷ ws)) (onto w (messages (x ∷ ws)))) ≡ w ∷ x ∷ ws)
     [ true ↦ ap (λ t. w ∷ t) (rejoins (x ∷ ws)) | false ↦ joined-onto w (messages (x ∷ ws)) ∙ ap (λ t. w ∷ t) (rejoins (x ∷ ws)) ]
+
+length-onto : (w : ℕ) (ms : List (List ℕ)) → length (onto w ms) ≤ suc (length ms)
+length-onto w [] = omega arith
+length-onto w (m ∷ ms) = omega arith
+
+pub messages-few : (ws : List ℕ) → length (messages ws) ≤ length ws
+messages-few [] = omega arith
+messages-few (w ∷ []) = omega arith
+messages-few (w ∷ x ∷ ws) =
+    let few = messages-few (x ∷ ws) in
+    let on = length-onto w (messages (x ∷ ws)) in
+    elim (is_kind Verb x) as (λ t. length (cond t ((w ∷ []) ∷ messages (x ∷ ws)) (onto w (messages (x ∷ ws)))) ≤ length (w ∷ x ∷ ws))
+    [ true ↦ omega arith | false ↦ omega arith ]

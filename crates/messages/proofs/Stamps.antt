@@ -62,7 +62,7 @@ module _ {more kinds left : List Kind} {fs : List ℕ} {i : ℕ} {was now : List
   next-counted : i < length fs → (1 ≤ length (coming more left)) × (counted more (drop 1 (coming more left)) (drop (i + 1) fs) ≡ true)
   next-counted h = counted-some more left (get_or fs i 0) (drop (i + 1) fs) (sym (at_drop_more (counted more left) fs i 0 h) ∙ F.count)
 
-  comes : (ks : List Kind) → ks ≡ coming more left → i < length fs → 1 ≤ length ks
+  pub comes : (ks : List Kind) → ks ≡ coming more left → i < length fs → 1 ≤ length ks
   comes ks e h = rw e (next-counted h).0
 
   pub fill_more : (ks : List Kind) (d : Kind) (v : ℕ) → ks ≡ coming more left → v ≡ word_of (get_or ks 0 d) (get_or fs i 0) → i < length fs → i < length was
