@@ -44,11 +44,11 @@ table n q h =
     omega arith
 
 -- a place below the start s waits until the turn has gone around
-around : (n s i : ℕ) → s < n → i < s → (i + n - s) % n ≡ i + n - s
+pub around : (n s i : ℕ) → s < n → i < s → (i + n - s) % n ≡ i + n - s
 around n s i h l = mod-eq_of_lt (omega arith)
 
 -- a place from the start on is as many places away
-ahead : (n s i : ℕ) → s ≤ i → i < n → (i + n - s) % n ≡ i - s
+pub ahead : (n s i : ℕ) → s ≤ i → i < n → (i + n - s) % n ≡ i - s
 ahead n s i h l =
     let far : i + n - s ≡ (i - s) + n = omega arith in
     let low : i - s < n = omega arith in
