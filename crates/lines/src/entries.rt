@@ -81,6 +81,8 @@ impl LineTable {
     }
 
     /// Adds a line, for which there is room, and counts its lots.
+    // always inlined, as what enters and reduces a line: a tender is some 70 instructions, and calls on the way double its time
+    #[inline(always)]
     fn add(&mut self, line: Line)
         requires room { vec_len self.old.lines < self.old.limit }
         requires sound { lawful_line self.old.rows line ≡ true }
@@ -93,6 +95,7 @@ impl LineTable {
     }
 
     /// Enters a line and gives its number; nothing if the table cannot hold it.
+    #[inline(always)]
     pub fn enter(&mut self, line: Line) -> Option<u32>
         ensures number { result ≡ (if holds self.old line then Some (length (lines_of self.old)) else None) }
         ensures lines { lines_of self.new ≡ (if holds self.old line then lines_of self.old ++ line ∷ [] else lines_of self.old) }
@@ -115,6 +118,7 @@ impl LineTable {
     }
 
     /// Takes lots off a line that was made.
+    #[inline(always)]
     fn take_off(&mut self, line: usize, lots: Lots)
         requires { line < vec_len self.old.lines }
         ensures lines { lines_of self.new ≡ slice_set (lines_of self.old) line (reduced (slice_index_or (lines_of self.old) line no_line) lots.0) }
@@ -128,6 +132,7 @@ impl LineTable {
     }
 
     /// Takes lots off a line, as many as it has; one that was not made has none.
+    #[inline(always)]
     pub fn reduce(&mut self, line: u32, lots: Lots)
         ensures lines { lines_of self.new ≡ slice_set (lines_of self.old) line (reduced (slice_index_or (lines_of self.old) line no_line) lots.0) }
         ensures room { SameRoom self.old self.new }

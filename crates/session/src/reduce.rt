@@ -46,6 +46,7 @@ impl<C: QuotedContract, P> Session<C, P> {
     }
 
     /// Takes lots off a row's own line, and releases their margin at the price they were tendered at.
+    #[inline]
     pub fn reduce<B: MarginBook>(
         &mut self,
         book: &mut B,

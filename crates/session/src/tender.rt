@@ -79,6 +79,8 @@ impl<C: QuotedContract, P> Session<C, P> {
     }
 
     /// Makes the line of an accepted tender, for which there is room.
+    // always inlined, as what the table does of it
+    #[inline(always)]
     fn enter(&mut self, time: TimeOfDay, row: u32, side: Side, taken: Lots) -> Tendered
         requires lots { taken.0 ≤ 40000 }
         requires row { row < length (view self.old).rows }
@@ -102,6 +104,7 @@ impl<C: QuotedContract, P> Session<C, P> {
 
     /// Takes a tender: a line of the lots taken, whose margin the book freezes. Taken is a lot or more, never more than was
     /// tendered and, in the supplementary period, never more than what remains of the imbalance.
+    #[inline]
     pub fn tender<B: MarginBook>(
         &mut self,
         book: &mut B,
